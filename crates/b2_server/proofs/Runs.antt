@@ -1,0 +1,61 @@
+-- What a run of the program comes to.
+use Rattle.std.proofs.Common.{◌≡◌, ℕ, List, [], ◌∷◌, map, Option, Some, IfSome, refl, sym, ap, ◌∙◌, subst, Bor, Bool, IsTrue, ◌↔◌, ◌≤◌, ◌<◌, length, get_or, arith}
+use Rattle.std.specs.Str.{bytes_eq}
+use Rattle.std.proofs.lemmas.Slice.Eq.{bytes_eq-Decides}
+use Rattle.serde_json.specs.Data.{string}
+use Rattle.outside_traits.specs.Causes.{Rose}
+use Rattle.replay_script.specs.Line.{Line}
+use Rattle.replay_script.specs.Script.{Says, words_of, conn_of}
+use Rattle.replay_script.specs.declared.script.Script.{Script}
+use Rattle.b2_base.specs.declared.settings.Settings.{Settings}
+use Rattle.b2_model.specs.Answer.{IsAnswer}
+use Rattle.b2_model.specs.Reply.{reply_of, output_of}
+use Rattle.b2_model.specs.declared.answer.Answer.{Answer}
+use Rattle.b2_server.specs.Store.{fixed_store}
+use Rattle.b2_server.specs.Run.{IsOutput, SourceCause, SinkCause, IsNotUsage, IsNotBadLine, IsOkOrMemory}
+use Rattle.b2_server.specs.declared.run.Status.{Status}
+use Rattle.b2_server.specs.declared.run.Status.TheVariants as status
+
+pub strings_of : (texts : List (Bor (List ℕ))) → map (λ text. string text.now) texts ≡ map string (map (λ text. text.now) texts)
+strings_of [] = refl
+strings_of (text ∷ texts) = ap (λ ds. string text.now ∷ ds) (strings_of texts)
+
+pub output_says : (script : Script) (lines : List Line) (settings : Settings) (answer : Answer) (reply output : List ℕ) → Says script lines → settings ≡ fixed_store
+    → IsAnswer settings script.words.items script.head.items answer → reply ≡ reply_of settings answer → output ≡ output_of script.conn reply → IsOutput lines output
+output_says script lines settings answer reply output says same is replied shown =
+    let by_store : Settings → Type 0 = λ s. IsAnswer s script.words.items script.head.items answer in
+    let by_words : List ℕ → Type 0 = λ words. IsAnswer fixed_store words script.head.items answer in
+    let by_head : List ℕ → Type 0 = λ head. IsAnswer fixed_store (words_of lines) head answer in (
+      answer,
+      subst by_head says.head (subst by_words says.words (subst by_store same is)),
+      shown ∙ ap (λ c. output_of c reply) says.conn ∙ ap (output_of (conn_of lines)) (replied ∙ ap (λ s. reply_of s answer) same),
+    )
+
+-- no fault is left where no count rose and the script is in the grammar
+pub completes : (result : Status) (source_before source_now sink_before sink_now : ℕ) → IsNotUsage result → IsNotBadLine result
+    → SourceCause source_before source_now result → SinkCause sink_before sink_now result
+    → (Rose source_before source_now → ⊥) → (Rose sink_before sink_now → ⊥) → IsOkOrMemory result
+completes status.Ok source_before source_now sink_before sink_now known whole source sink calm_source calm_sink = tt
+completes status.Usage source_before source_now sink_before sink_now known whole source sink calm_source calm_sink = absurd known
+completes status.Memory source_before source_now sink_before sink_now known whole source sink calm_source calm_sink = tt
+completes status.SourceFault source_before source_now sink_before sink_now known whole source sink calm_source calm_sink = absurd (calm_source source)
+completes status.SinkFault source_before source_now sink_before sink_now known whole source sink calm_source calm_sink = absurd (calm_sink sink)
+completes (status.BadLine number) source_before source_now sink_before sink_now known whole source sink calm_source calm_sink = absurd whole
+
+pub known_some : (a : Option (List ℕ)) (bytes : List ℕ) (P : List ℕ → Type 0) → a ≡ Some bytes → IfSome a P → P bytes
+known_some a bytes P is known = rw is at known
+
+pub one_word : (words : List (List ℕ)) (word : List ℕ) → 1 ≤ length words → length words < 2 → word ≡ get_or words 0 word → words ≡ word ∷ []
+one_word [] word some few is = absurd (omega arith)
+one_word (first ∷ []) word some few is = ap (λ w. w ∷ []) (sym is)
+one_word (first ∷ second ∷ words) word some few is = absurd (omega (arith, few))
+
+first_word : (a b : List ℕ) → a ∷ [] ≡ b ∷ [] → a ≡ b
+first_word a b same = ap (λ ws. get_or ws 0 a) same
+
+pub only_word : (words : List (List ℕ)) (word name : List ℕ) (r : Bool) → 1 ≤ length words → length words < 2 → word ≡ get_or words 0 word → r ≡ bytes_eq word name
+    → IsTrue r ↔ (words ≡ name ∷ [])
+only_word words word name r some few is tested = (
+  λ yes. one_word words word some few is ∙ ap (λ w. w ∷ []) ((bytes_eq-Decides word name).0 (sym tested ∙ yes)),
+  λ same. tested ∙ (bytes_eq-Decides word name).1 (first_word word name (sym (one_word words word some few is) ∙ same)),
+)

@@ -1,0 +1,4 @@
+pub mod Store
+pub mod Json
+pub mod Judge
+pub mod Run

@@ -1,0 +1,68 @@
+-- What a run of the program does, from the script's bytes to the output's bytes.
+use Rattle.std.specs.Prelude.{◌≡◌, ℕ, List, [], ◌∷◌, Option, codes}
+use Rattle.std.specs.Io.KnownBytes.{Appends}
+use Rattle.outside_traits.specs.Causes.{Rose}
+use Rattle.outside_traits.specs.Bytes.{AppendsFront}
+use Rattle.replay_script.specs.Line.{Line}
+use Rattle.replay_script.specs.Script.{ReadsScript, HasFirstWrong, head_of, words_of, conn_of}
+use Rattle.b2_model.specs.Answer.{IsAnswer}
+use Rattle.b2_model.specs.Reply.{reply_of, output_of}
+use Rattle.b2_model.specs.declared.answer.Answer.{Answer}
+use Rattle.b2_server.specs.Store.{fixed_store}
+use Rattle.b2_server.specs.declared.run.Status.{Status}
+use Rattle.b2_server.specs.declared.run.Status.TheVariants as status
+
+-- the words of the command line are `replay` and no others
+abbrev pub IsReplay : List (List ℕ) → Type 0
+IsReplay words = words ≡ codes "replay" ∷ []
+
+-- the output for a script of these lines: it shows the reply to the answer that its request gets
+abbrev pub IsOutput : List Line → List ℕ → Type 0
+IsOutput lines output =
+    (answer : Answer) × IsAnswer fixed_store (words_of lines) (head_of lines) answer × (output ≡ output_of (conn_of lines) (reply_of fixed_store answer))
+
+-- the bytes are a script, and this is the output for it
+abbrev pub HasOutput : List ℕ → List ℕ → Type 0
+HasOutput bytes output = (lines : List Line) × ReadsScript bytes lines × IsOutput lines output
+
+-- What a run that ends so says of the script's bytes, and of what the sink held before and holds now.
+abbrev pub Leaves : List ℕ → Option (List ℕ) → Option (List ℕ) → Status → Type 0
+-- the sink took the output
+Leaves bytes old new status.Ok = (output : List ℕ) × HasOutput bytes output × Appends old new output
+-- it took a front of it
+Leaves bytes old new status.SinkFault = (output : List ℕ) × HasOutput bytes output × AppendsFront old new output
+-- the first wrong line has this number
+Leaves bytes old new (status.BadLine number) = HasFirstWrong bytes number
+Leaves bytes old new status.Usage = Unit {0}
+Leaves bytes old new status.Memory = Unit {0}
+Leaves bytes old new status.SourceFault = Unit {0}
+
+-- the source's count rose exactly where its fault is answered
+abbrev pub SourceCause : ℕ → ℕ → Status → Type 0
+SourceCause before now status.SourceFault = Rose before now
+SourceCause before now _ = now ≡ before
+
+-- the sink's count rose exactly where its fault is answered
+abbrev pub SinkCause : ℕ → ℕ → Status → Type 0
+SinkCause before now status.SinkFault = Rose before now
+SinkCause before now _ = now ≡ before
+
+-- nothing was written: that is so but at Ok and at a fault of the sink
+abbrev pub Quiet : {K : Type 0} → K → K → Status → Type 0
+Quiet old new status.Ok = Unit {0}
+Quiet old new status.SinkFault = Unit {0}
+Quiet old new _ = new ≡ old
+
+-- the run ended well, or for want of memory
+abbrev pub IsOkOrMemory : Status → Type 0
+IsOkOrMemory status.Ok = Unit {0}
+IsOkOrMemory status.Memory = Unit {0}
+IsOkOrMemory _ = ⊥
+
+abbrev pub IsNotUsage : Status → Type 0
+IsNotUsage status.Usage = ⊥
+IsNotUsage _ = Unit {0}
+
+abbrev pub IsNotBadLine : Status → Type 0
+IsNotBadLine (status.BadLine number) = ⊥
+IsNotBadLine _ = Unit {0}

@@ -1,0 +1,39 @@
+//! The body of a reply.
+
+ghost use Rattle.std.specs.Prelude.{◌≡◌, IfOk};
+ghost use Rattle.serde_json.specs.View.{view};
+ghost use Rattle.b2_model.specs.Answer.{body_data, refusal_data};
+ghost use Rattle.b2_model.specs.Reply.{body_text};
+
+use crate::account::{account_value, put_number, put_text};
+use b2_base::{Memory, Settings};
+use b2_model::{Answer, Refusal};
+use serde_json::{Map, Value};
+use std::alloc::Global;
+
+fn refusal_value(alloc: Global, refusal: Refusal) -> Result<Value, Memory>
+    ensures { IfOk result (λ v. view v ≡ refusal_data refusal) }
+{
+    let mut map = Map::new(alloc);
+    put_text(&mut map, alloc, "code", refusal.code())?;
+    put_text(&mut map, alloc, "message", refusal.message())?;
+    put_number(&mut map, alloc, "status", u64::from(refusal.status()))?;
+    Ok(Value::Object(map))
+}
+
+fn body_value(alloc: Global, settings: &Settings, answer: &Answer) -> Result<Value, Memory>
+    ensures { IfOk result (λ v. view v ≡ body_data settings.now answer.now) }
+{
+    match answer {
+        Answer::Account(token) => account_value(alloc, settings, token),
+        Answer::Refused(refusal) => refusal_value(alloc, *refusal),
+    }
+}
+
+/// The body of the reply to the answer: JSON with no space in it.
+pub fn body(alloc: Global, settings: &Settings, answer: &Answer) -> Result<Vec<u8>, Memory>
+    ensures { IfOk result (λ v. v.items ≡ body_text settings.now answer.now) }
+{
+    let value = body_value(alloc, settings, answer)?;
+    Ok(value.to_vec(alloc)?)
+}

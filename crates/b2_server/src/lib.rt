@@ -1,0 +1,14 @@
+//! The server: what `b2d` does, over any source and sink.
+#![tactic(auto)]
+
+mod account;
+mod answer;
+mod body;
+mod capabilities;
+mod judge;
+mod reply;
+mod run;
+mod store;
+mod token;
+
+pub use run::{Status, run_b2d};

@@ -1,0 +1,106 @@
+//! The top call.
+
+ghost use Rattle.std.specs.Prelude.{◌≡◌, ◌↔◌, ℕ, List, Some, IsTrue, IfOk, IfSome};
+ghost use Rattle.outside_traits.specs.Causes.{Rose};
+ghost use Rattle.replay_script.specs.Line.{Line};
+ghost use Rattle.replay_script.specs.Script.{ReadsScript, Says};
+ghost use Rattle.b2_server.specs.Run.{IsReplay, IsOutput, IsNotUsage, IsNotBadLine, Leaves, SourceCause, SinkCause, Quiet, IsOkOrMemory};
+
+use crate::answer::answer;
+use crate::reply::{output, reply};
+use crate::store::fixed_settings;
+use b2_base::{Memory, Or, Text};
+use outside_traits::{Failed, Sink, Source, write_all};
+use replay_script::{Script, ScriptFault, read_script};
+use std::alloc::Global;
+
+/// How a run ended.
+#[derive(Clone, Copy, Debug, PartialEq, Eq)]
+pub enum Status {
+    Ok,
+    /// The words of the command line are none that the program knows.
+    Usage,
+    /// There was not enough memory.
+    Memory,
+    /// The script could not be read.
+    SourceFault,
+    /// The output could not be written, or not all of it.
+    SinkFault,
+    /// The script's line of this number, counted from 1, is the first that is wrong.
+    BadLine(u64),
+}
+
+// The output for a script.
+fn served(alloc: Global, script: &Script) -> Result<Vec<u8>, Memory>
+    ensures { IfOk result (λ v. (lines : List Line) → Says script.now lines → IsOutput lines v.items) }
+{
+    let settings = fixed_settings(alloc)?;
+    let answer = answer(alloc, &settings, &script.words, &script.head)?;
+    let reply = reply(alloc, &settings, &answer)?;
+    let output = output(alloc, script.conn, &reply)?;
+    Ok(output)
+}
+
+// Reads the script, serves it and writes the output.
+fn replay<S: Source, K: Sink>(alloc: Global, script: &mut S, out: &mut K) -> Status
+    ensures known { IsNotUsage result }
+    ensures leaves { IfSome (S.left script.old) (λ bytes. Leaves bytes (K.contents out.old) (K.contents out.new) result) }
+    ensures whole { IfSome (S.left script.old) (λ bytes. (lines : List Line) → ReadsScript bytes lines → IsNotBadLine result) }
+    ensures source { SourceCause (S.faults script.old) (S.faults script.new) result }
+    ensures sink { SinkCause (K.faults out.old) (K.faults out.new) result }
+    ensures quiet { Quiet out.old out.new result }
+{
+    let script = match read_script(alloc, script) {
+        Ok(script) => script,
+        Err(Or::Memory) => return Status::Memory,
+        Err(Or::Fault(ScriptFault::SourceFault)) => return Status::SourceFault,
+        Err(Or::Fault(ScriptFault::BadLine(number))) => return Status::BadLine(number),
+    };
+    let Ok(output) = served(alloc, &script) else {
+        return Status::Memory;
+    };
+    match write_all(out, &output) {
+        Ok(()) => Status::Ok,
+        Err(Failed) => Status::SinkFault,
+    }
+}
+
+fn is_replay(words: &[Text]) -> bool
+    ensures { IsTrue result ↔ IsReplay words.now }
+{
+    match words {
+        [word] => word.get() == "replay",
+        _ => false,
+    }
+}
+
+/// All that the program does: with the word `replay` it reads the script, serves its request and writes
+/// what was sent.
+pub fn run_b2d<S: Source, K: Sink>(
+    alloc: Global,
+    words: &[Text],
+    script: &mut S,
+    out: &mut K,
+) -> Status
+    // Other words are refused, and nothing else is.
+    ensures usage { (result ≡ Status.Usage) ↔ (IsReplay words.now → ⊥) }
+    ensures unread { result ≡ Status.Usage → script.new ≡ script.old }
+
+    // From the script's bytes to the output's.
+    ensures leaves { IfSome (S.left script.old) (λ bytes. Leaves bytes (K.contents out.old) (K.contents out.new) result) }
+
+    // A fault comes only from the object whose count rose.
+    ensures source { SourceCause (S.faults script.old) (S.faults script.new) result }
+    ensures sink { SinkCause (K.faults out.old) (K.faults out.new) result }
+    ensures quiet { Quiet out.old out.new result }
+
+    // A script in the grammar is served, where no count rises.
+    ensures complete { IsReplay words.now → (bytes : List ℕ) (lines : List Line) → S.left script.old ≡ Some bytes → ReadsScript bytes lines
+        → (Rose (S.faults script.old) (S.faults script.new) → ⊥) → (Rose (K.faults out.old) (K.faults out.new) → ⊥) → IsOkOrMemory result }
+{
+    if is_replay(words) {
+        replay(alloc, script, out)
+    } else {
+        Status::Usage
+    }
+}

@@ -1,0 +1,16 @@
+use Rattle.std.proofs.Common.{codes, Some, List, ℕ, subst, rules}
+use Rattle.std.proofs.lemmas.Bool.Decides.{Decides-eqb}
+use Rattle.std.proofs.lemmas.Slice.Eq.{strip_prefix_is}
+use Rattle.http_edge.specs.Basic.{IsPair}
+use Rattle.http_edge.proofs.Pairs.{basic_of, one_pair}
+use Rattle.http_edge.proofs.credentials.basic.Goals as goal
+
+pub returns-clause-pair : goal.returns-clause-pair
+returns-clause-pair c =
+    let front = strip_prefix_is Decides-eqb c.args.value.now (codes "Basic ") (Some c.in-Some.encoded) c.in-Some.ensures.cases in
+    let at : List ℕ → Type 0 = λ xs. IsPair xs c.in-Some-split_pair.user.now c.in-Some-split_pair.secret.now in
+    basic_of c.args.value.now c.in-Some.encoded.now c.in-Ok.bytes.items c.in-Some-split_pair.user.now c.in-Some-split_pair.secret.now c.in_ok-user.user c.in_ok-secret.secret
+    front (c.in-Ok.ensures.exact (search rules)) c.in-Ok.ensures.bytes (subst at c.deref.ensures.value c.in-Some-split_pair.ensures) c.in_ok-user.ensures c.in_ok-secret.ensures
+
+pub returns-clause-only : goal.returns-clause-only
+returns-clause-only c = λ user secret basic. one_pair c.args.value.now user secret c.in_ok-user.user c.in_ok-secret.secret basic (returns-clause-pair c)

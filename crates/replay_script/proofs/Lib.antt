@@ -1,0 +1,9 @@
+pub mod Numerals
+pub mod Words
+pub mod Cuts
+pub mod Keywords
+pub mod Order
+pub mod Lines
+pub mod Ends
+pub mod Fronts
+pub mod Limits

@@ -1,0 +1,134 @@
+//! The lines of a script, read from their bytes.
+
+ghost use Rattle.std.specs.Prelude.{◌≡◌, ◌≢◌, ◌<◌, ◌^◌, ◌↔◌, ◌++◌, ℕ, List, slice_index, EachIndex, IsTrue, MatchOption, All, codes, decimal};
+ghost use Rattle.std.specs.Int.{IsInRange};
+ghost use Rattle.b2_base.specs.Digits.{sixteen_digits};
+ghost use Rattle.replay_script.specs.Reading.{line_of, SpellsLine, IsCutAt, IsPlainNumeral};
+
+use hex::FromHex;
+use memchr::memchr;
+
+/// What a line says.
+#[derive(Clone, Copy, Debug)]
+pub enum Said<'a> {
+    /// The clock's reading, in milliseconds.
+    Reading(u64),
+    /// The next random word.
+    Random(u64),
+    /// The connection opens.
+    Opening(u32),
+    /// A line of the request's head comes on the connection.
+    Head(u32, &'a [u8]),
+    /// The connection can take bytes.
+    Ready(u32),
+    Stop,
+}
+
+/// Cuts the text at the first such byte.
+pub fn cut_at(byte: u8, text: &[u8]) -> Option<(&[u8], &[u8])>
+    ensures { MatchOption result (All (λ b. b ≢ byte) text.now) (λ p. IsCutAt byte text.now p.0.now p.1.now) }
+{
+    let at = memchr(byte, text)?;
+    Some((&text[..at], &text[at + 1..]))
+}
+
+fn is_digits(text: &[u8]) -> bool
+    ensures { IsTrue result ↔ EachIndex text.now (λ i. IsInRange 48 57 (slice_index text.now i)) }
+{
+    text.iter().all(|byte| byte.is_ascii_digit())
+}
+
+// Whether the text is decimal digits with no leading zero, but for `0` itself.
+fn is_numeral(text: &[u8]) -> bool
+    ensures { IsTrue result ↔ IsPlainNumeral text.now }
+{
+    let is_padded = text.len() > 1 && text[0] == b'0';
+    !text.is_empty() && !is_padded && is_digits(text)
+}
+
+/// The number that is written so, in decimal with no sign and no leading zero.
+pub fn number_of(text: &[u8]) -> Option<u64>
+    ensures { MatchOption result ((n : ℕ) → n < 2 ^ 64 → text.now ≢ decimal n) (λ n. text.now ≡ decimal n) }
+{
+    if !is_numeral(text) {
+        return None;
+    }
+    let Ok(text) = str::from_utf8(text) else {
+        return None;
+    };
+    let Ok(number) = text.parse::<u64>() else {
+        return None;
+    };
+    Some(number)
+}
+
+/// The word that is written as 16 lower-case hex digits.
+pub fn word_of(text: &[u8]) -> Option<u64>
+    ensures { MatchOption result ((n : ℕ) → n < 2 ^ 64 → text.now ≢ sixteen_digits n) (λ n. text.now ≡ sixteen_digits n) }
+{
+    let Ok(bytes) = <[u8; 8] as FromHex>::from_hex(text) else {
+        return None;
+    };
+    let mut again = [0u8; 16];
+    hex::encode_to_slice(&bytes, &mut again).unwrap();
+    if text == again.as_slice() {
+        Some(u64::from_be_bytes(bytes))
+    } else {
+        None
+    }
+}
+
+fn conn_of(text: &[u8]) -> Option<u32>
+    ensures { MatchOption result ((n : ℕ) → n < 2 ^ 32 → text.now ≢ decimal n) (λ n. text.now ≡ decimal n) }
+{
+    let number = number_of(text)?;
+    u32::try_from(number).ok()
+}
+
+// What stands behind the prefix, where the text begins with it.
+fn behind<'a>(prefix: &[u8], text: &'a [u8]) -> Option<&'a [u8]>
+    ensures { MatchOption result ((rest : List ℕ) → text.now ≢ prefix.now ++ rest) (λ rest. text.now ≡ prefix.now ++ rest.now) }
+{
+    text.strip_prefix(prefix)
+}
+
+// The line of a head that is written so behind `line `.
+fn head_line(rest: &[u8]) -> Option<Said<'_>>
+    requires { All (λ b. b ≢ 10) rest.now }
+    ensures { SpellsLine (codes "line " ++ rest.now) result }
+{
+    let Some((conn, text)) = cut_at(b' ', rest) else {
+        return None;
+    };
+    let Some(conn) = conn_of(conn) else {
+        return None;
+    };
+    Some(Said::Head(conn, text))
+}
+
+/// The line that is written so.
+pub fn read_line(text: &[u8]) -> Option<Said<'_>>
+    requires { All (λ b. b ≢ 10) text.now }
+    ensures { SpellsLine text.now result }
+{
+    if let Some(time) = behind(b"at ", text) {
+        return Some(Said::Reading(number_of(time)?));
+    }
+    if let Some(word) = behind(b"word ", text) {
+        return Some(Said::Random(word_of(word)?));
+    }
+    if let Some(conn) = behind(b"open ", text) {
+        return Some(Said::Opening(conn_of(conn)?));
+    }
+    if let Some(rest) = behind(b"line ", text) {
+        return head_line(rest);
+    }
+    if let Some(conn) = behind(b"ready ", text) {
+        return Some(Said::Ready(conn_of(conn)?));
+    }
+    if text == b"stop".as_slice() {
+        Some(Said::Stop)
+    } else {
+        None
+    }
+}
