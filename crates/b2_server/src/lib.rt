@@ -12,3 +12,6 @@ mod store;
 mod token;
 
 pub use run::{Status, run_b2d};
+
+#[cfg(test)]
+mod tests;
