@@ -66,3 +66,12 @@ IsNotUsage _ = Unit {0}
 abbrev pub IsNotBadLine : Status → Type 0
 IsNotBadLine (status.BadLine number) = ⊥
 IsNotBadLine _ = Unit {0}
+
+-- the line of this number is called wrong, and no other; or the script wasn't read
+abbrev pub CallsWrong : ℕ → Status → Type 0
+CallsWrong number status.Ok = ⊥
+CallsWrong number status.Usage = ⊥
+CallsWrong number status.Memory = Unit {0}
+CallsWrong number status.SourceFault = Unit {0}
+CallsWrong number status.SinkFault = ⊥
+CallsWrong number (status.BadLine called) = called ≡ number

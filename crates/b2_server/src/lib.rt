@@ -6,11 +6,13 @@ mod answer;
 mod body;
 mod capabilities;
 mod judge;
+mod laws;
 mod reply;
 mod run;
 mod store;
 mod token;
 
+pub use laws::one_output;
 pub use run::{Status, run_b2d};
 
 #[cfg(test)]

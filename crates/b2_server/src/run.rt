@@ -3,8 +3,8 @@
 ghost use Rattle.std.specs.Prelude.{◌≡◌, ◌↔◌, ℕ, List, Some, IsTrue, IfOk, IfSome};
 ghost use Rattle.outside_traits.specs.Causes.{Rose};
 ghost use Rattle.replay_script.specs.Line.{Line};
-ghost use Rattle.replay_script.specs.Script.{ReadsScript, Says};
-ghost use Rattle.b2_server.specs.Run.{IsReplay, IsOutput, IsNotUsage, IsNotBadLine, Leaves, SourceCause, SinkCause, Quiet, IsOkOrMemory};
+ghost use Rattle.replay_script.specs.Script.{ReadsScript, HasFirstWrong, Says};
+ghost use Rattle.b2_server.specs.Run.{IsReplay, IsOutput, IsNotUsage, IsNotBadLine, CallsWrong, Leaves, SourceCause, SinkCause, Quiet, IsOkOrMemory};
 
 use crate::answer::answer;
 use crate::reply::{output, reply};
@@ -46,6 +46,7 @@ fn replay<S: Source, K: Sink>(alloc: Global, script: &mut S, out: &mut K) -> Sta
     ensures known { IsNotUsage result }
     ensures leaves { IfSome (S.left script.old) (λ bytes. Leaves bytes (K.contents out.old) (K.contents out.new) result) }
     ensures whole { IfSome (S.left script.old) (λ bytes. (lines : List Line) → ReadsScript bytes lines → IsNotBadLine result) }
+    ensures wrong { IfSome (S.left script.old) (λ bytes. (number : ℕ) → HasFirstWrong bytes number → CallsWrong number result) }
     ensures source { SourceCause (S.faults script.old) (S.faults script.new) result }
     ensures sink { SinkCause (K.faults out.old) (K.faults out.new) result }
     ensures quiet { Quiet out.old out.new result }
@@ -88,6 +89,9 @@ pub fn run_b2d<S: Source, K: Sink>(
 
     // From the script's bytes to the output's.
     ensures leaves { IfSome (S.left script.old) (λ bytes. Leaves bytes (K.contents out.old) (K.contents out.new) result) }
+
+    // Where a line is the first wrong one, no other is called so, and nothing is served.
+    ensures wrong { IsReplay words.now → IfSome (S.left script.old) (λ bytes. (number : ℕ) → HasFirstWrong bytes number → CallsWrong number result) }
 
     // A fault comes only from the object whose count rose.
     ensures source { SourceCause (S.faults script.old) (S.faults script.new) result }

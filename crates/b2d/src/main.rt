@@ -10,10 +10,9 @@ use b2_base::Text;
 use b2_server::{Status, run_b2d};
 use edge::{StdIn, StdOut};
 use std::alloc::{AllocError, Global};
-use std::env;
-use std::io;
 use std::process::ExitCode;
 use std::rt::Env;
+use std::{env, io};
 
 /// The exit status of a run: the numbers leave room for the statuses of later commands.
 fn exit_number(status: Status) -> u8

@@ -34,8 +34,8 @@ impl Calls {
     pub fn fails_now(&mut self) -> bool
         ensures answer { IsTrue result ↔ Contains self.old.fails.items (raised self.old.made) }
         ensures counted { self.new ≡ record self.old {
-            made = raised self.old.made;
-            faults = (if result then raised self.old.faults else self.old.faults)
+          made = raised self.old.made;
+          faults = (if result then raised self.old.faults else self.old.faults);
         } }
         ensures later { self.old.faults ≤ self.new.faults }
         ensures rose { OnTrue result (Rose self.old.faults self.new.faults) }
@@ -51,8 +51,8 @@ impl Calls {
     /// Counts a call that found no memory.
     pub fn lacks_memory(&mut self)
         ensures counted { self.new ≡ record self.old {
-            faults = raised self.old.faults;
-            short = raised self.old.short
+          faults = raised self.old.faults;
+          short = raised self.old.short;
         } }
         ensures later { self.old.faults ≤ self.new.faults }
         ensures rose { Rose self.old.faults self.new.faults }

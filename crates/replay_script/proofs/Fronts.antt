@@ -95,3 +95,12 @@ one_list bytes a b first second =
 pub no_script : (a : Option (List ℕ)) (n : ℕ) → IfSome a (λ bytes. HasFirstWrong bytes n) → IfSome a (λ bytes. (lines : List Line) → ReadsScript bytes lines → ⊥)
 no_script None n wrong = tt
 no_script (Some bytes) n wrong = λ lines reads. script_has_no_wrong_line bytes lines n reads wrong
+
+pub one_wrong : (a : Option (List ℕ)) (n : ℕ) → IfSome a (λ bytes. HasFirstWrong bytes n) → IfSome a (λ bytes. (number : ℕ) → HasFirstWrong bytes number → n ≡ number)
+one_wrong None n wrong = tt
+one_wrong (Some bytes) n wrong = λ number other. one_wrong_line bytes n number wrong other
+
+pub not_wrong : (a : Option (List ℕ)) (lines : List Line) → IfSome a (λ bytes. ReadsScript bytes lines)
+    → IfSome a (λ bytes. (number : ℕ) → HasFirstWrong bytes number → ⊥)
+not_wrong None lines reads = tt
+not_wrong (Some bytes) lines reads = λ number wrong. script_has_no_wrong_line bytes lines number reads wrong

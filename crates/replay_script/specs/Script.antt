@@ -115,3 +115,10 @@ CallsNoLineWrong (Ok script) = Unit {0}
 CallsNoLineWrong (Err or.Memory) = Unit {0}
 CallsNoLineWrong (Err (or.Fault fault.SourceFault)) = Unit {0}
 CallsNoLineWrong (Err (or.Fault (fault.BadLine number))) = ⊥
+
+-- the line of this number is called wrong, and no other
+abbrev pub CallsWrong : ℕ → Result Script (Or ScriptFault) → Type 0
+CallsWrong number (Ok script) = ⊥
+CallsWrong number (Err or.Memory) = Unit {0}
+CallsWrong number (Err (or.Fault fault.SourceFault)) = Unit {0}
+CallsWrong number (Err (or.Fault (fault.BadLine called))) = called ≡ number

@@ -4,7 +4,7 @@ ghost use Rattle.std.specs.Prelude.{◌≡◌, ◌<◌, ◌≤◌, ℕ, List, Op
 ghost use Rattle.std.specs.Io.KnownBytes.{Consumes, IsAtEnd};
 ghost use Rattle.outside_traits.specs.Causes.{HasFaultCause};
 ghost use Rattle.replay_script.specs.Line.{Line};
-ghost use Rattle.replay_script.specs.Script.{ReadsScript, GivesScript, CallsNoLineWrong, HasSourceCause};
+ghost use Rattle.replay_script.specs.Script.{ReadsScript, HasFirstWrong, GivesScript, CallsNoLineWrong, CallsWrong, HasSourceCause};
 
 use crate::reader::{MOST_BYTES, parse};
 use crate::script::{Script, ScriptFault};
@@ -66,6 +66,8 @@ pub fn read_script<S: Source>(alloc: Global, source: &mut S) -> Result<Script, O
     ensures script { IfSome (S.left source.old) (λ bytes. GivesScript bytes result) }
     // No line of a script is wrong.
     ensures whole { IfSome (S.left source.old) (λ bytes. (lines : List Line) → ReadsScript bytes lines → CallsNoLineWrong result) }
+    // Where one is, no other line is called so, and the bytes are not served.
+    ensures wrong { IfSome (S.left source.old) (λ bytes. (number : ℕ) → HasFirstWrong bytes number → CallsWrong number result) }
     ensures cause { HasSourceCause (S.faults source.old) (S.faults source.new) result }
 {
     let bytes = match read_bytes(alloc, source) {

@@ -1,4 +1,4 @@
-use Rattle.std.proofs.Common.{◌≡◌, ◌∙◌, List, ℕ, ◌+◌, ◌-◌, subst, take, drop, length, arith, length-take, length-drop}
+use Rattle.std.proofs.Common.{◌∙◌, List, ℕ, ◌-◌, subst, drop, length, arith, length-take, length-drop}
 use Rattle.std.specs.Io.KnownBytes.{Appends}
 use Rattle.std.proofs.KnownBytes.{Appends-trans}
 use Rattle.outside_traits.proofs.Fronts.{front_more}
