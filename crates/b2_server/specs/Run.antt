@@ -59,10 +59,12 @@ IsOkOrMemory status.Ok = Unit {0}
 IsOkOrMemory status.Memory = Unit {0}
 IsOkOrMemory _ = ⊥
 
+-- the words are those of a run
 abbrev pub IsNotUsage : Status → Type 0
 IsNotUsage status.Usage = ⊥
 IsNotUsage _ = Unit {0}
 
+-- no line is called wrong
 abbrev pub IsNotBadLine : Status → Type 0
 IsNotBadLine (status.BadLine number) = ⊥
 IsNotBadLine _ = Unit {0}
