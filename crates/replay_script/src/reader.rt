@@ -3,9 +3,8 @@
 ghost use Rattle.std.specs.Prelude.{◌≡◌, ◌≢◌, ◌+◌, ◌<◌, ◌^◌, ◌↔◌, List, [], ◌∷◌, ◌++◌, length, All, IsTrue, IfOk, OnOk};
 ghost use Rattle.b2_base.specs.Failure.{IfFault};
 ghost use Rattle.replay_script.specs.Line.{Line, line_text};
-ghost use Rattle.replay_script.specs.Script.{IsBeginning, ReadsScript, HasFirstWrong};
+ghost use Rattle.replay_script.specs.Script.{IsBeginning, ReadsScript, HasFirstWrong, Says};
 ghost use Rattle.replay_script.specs.Reading.{Progress};
-ghost use Rattle.replay_script.specs.Script.{Says};
 
 use crate::line::{cut_at, read_line};
 use crate::place::Place;
