@@ -1,2 +1,4 @@
 pub mod Faults
 pub mod Cuts
+pub mod DigitsLemmas
+pub mod IdLemmas

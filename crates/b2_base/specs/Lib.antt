@@ -1,2 +1,4 @@
 pub mod Digits
 pub mod Failure
+pub mod FileId
+pub mod Bytes

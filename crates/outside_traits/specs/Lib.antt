@@ -1,3 +1,5 @@
 pub mod Causes
 pub mod Bytes
 pub mod Memory
+pub mod Given
+pub mod Lists

@@ -3,13 +3,20 @@
 #![tactic(auto)]
 
 mod calls;
+mod clock;
 mod sink;
 mod source;
+mod words;
 
 pub use calls::Calls;
+pub use clock::{Clock, ListClock};
 pub use sink::{MemSink, Sink, write_all};
 pub use source::{MemSource, Source};
+pub use words::{ListWords, Words};
 
 /// A call on the outside failed, and its object has counted it.
 #[derive(Clone, Copy, Debug, PartialEq, Eq)]
 pub struct Failed;
+
+#[cfg(test)]
+mod tests;

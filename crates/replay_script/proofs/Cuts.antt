@@ -12,7 +12,7 @@ use Rattle.hex.specs.Hex.{is_hex_digit, decode_sized}
 use Rattle.hex.proofs.HexLemmas.{IsOk-decode_sized}
 use Rattle.b2_base.specs.Digits.{sixteen_digits}
 use Rattle.replay_script.specs.Line.{Line, reading, random, opening, head, ready, stop, line_text, Fits}
-use Rattle.replay_script.proofs.Words.{decodes}
+use Rattle.b2_base.proofs.DigitsLemmas.{decodes_sixteen}
 
 -- what holds of each byte holds of those behind a front, and of those in front
 pub all_behind : (P : ℕ → Type 0) (xs ys zs : List ℕ) → zs ≡ xs ++ ys → All P zs → All P ys
@@ -48,7 +48,7 @@ ok_of r x is = rw is refl
 -- nor has a word's
 pub clean_word : (n : ℕ) → n < 2 ^ 64 → All (λ c. c ≢ 10) (sixteen_digits n)
 clean_word n small =
-    let digits = (IsOk-decode_sized (sixteen_digits n) 8).0 (ok_of (decode_sized (sixteen_digits n) 8) _ (decodes (sixteen_digits n) n refl)) in
+    let digits = (IsOk-decode_sized (sixteen_digits n) 8).0 (ok_of (decode_sized (sixteen_digits n) 8) _ (decodes_sixteen (sixteen_digits n) n refl)) in
     All-weaker (λ c. IsTrue (is_hex_digit c)) (λ c. c ≢ 10) digit_is_no_break (sixteen_digits n) digits.1
 
 -- no line has a line feed in it

@@ -3,7 +3,8 @@ use Rattle.std.proofs.Common.{◌≡◌, ◌≢◌, ℕ, ◌≤◌, List, [], �
 use Rattle.std.specs.List.{All}
 use Rattle.replay_script.specs.Line.{Line, line_text, Fits, stop}
 use Rattle.replay_script.specs.Script.{text_of, IsBeginning, IsFirstWrong, ReadsScript}
-use Rattle.replay_script.specs.Reading.{IsCutAt, Stands, place_of}
+use Rattle.b2_base.specs.Bytes.{IsCutAt}
+use Rattle.replay_script.specs.Reading.{Stands, place_of}
 use Rattle.replay_script.specs.declared.reader.Reader.{Reader}
 use Rattle.replay_script.specs.declared.place.Place.TheVariants as place
 use Rattle.replay_script.proofs.Order.{each_last, ends_with_stop, place_of_push}

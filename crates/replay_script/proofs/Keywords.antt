@@ -3,7 +3,7 @@ use Rattle.std.proofs.Common.{◌≡◌, ◌≢◌, ℕ, ◌<◌, ◌^◌, List,
 use Rattle.std.proofs.lemmas.Bool.{false≢true}
 use Rattle.b2_base.specs.Digits.{sixteen_digits}
 use Rattle.std.specs.List.{All}
-use Rattle.replay_script.specs.Reading.{IsCutAt}
+use Rattle.b2_base.specs.Bytes.{IsCutAt}
 use Rattle.b2_base.proofs.Cuts.{cut_once, has_byte}
 use Rattle.replay_script.proofs.Cuts.{clean_number, all_behind}
 use Rattle.replay_script.specs.Line.{Line, reading, random, opening, head, ready, stop, line_text, Fits}

@@ -1,5 +1,4 @@
 pub mod Numerals
-pub mod Words
 pub mod Cuts
 pub mod Keywords
 pub mod Order

@@ -1,10 +1,7 @@
 -- One line more, or a line that is wrong.
-use Rattle.std.proofs.Common.{◌≡◌, ℕ, ◌+◌, ◌<◌, ◌≤◌, ◌^◌, List, [], ◌∷◌, ◌++◌, length, fold, refl, sym, ap, ◌∙◌, subst, arith, append-nil, length-append, codes, decimal, Result, Ok}
-use Rattle.std.specs.Result.{result_unwrap_or}
-use Rattle.std.specs.Int.{w64, from_be_bytes, to_be_bytes}
+use Rattle.std.proofs.Common.{◌≡◌, ℕ, ◌+◌, ◌<◌, ◌≤◌, ◌^◌, List, [], ◌∷◌, ◌++◌, length, fold, refl, sym, ap, ◌∙◌, subst, arith, append-nil, length-append, codes, decimal}
 use Rattle.std.proofs.lemmas.List.Concat.{flat_map-append}
 use Rattle.std.proofs.lemmas.Fmt.{decimal_injective}
-use Rattle.std.proofs.lemmas.Nat.{from_be_bytes-to_be_bytes_8}
 use Rattle.b2_base.specs.Digits.{sixteen_digits}
 use Rattle.replay_script.specs.Line.{Line, reading, random, opening, head, ready, stop, line_text, Fits}
 use Rattle.replay_script.specs.Script.{text_of, head_of, head_part, words_of, words_part, reading_behind, conn_behind, IsBeginning}
@@ -13,20 +10,10 @@ use Rattle.replay_script.specs.declared.script.Script.{Script}
 use Rattle.replay_script.specs.declared.reader.Reader.{Reader}
 use Rattle.replay_script.specs.declared.place.Place.{Place}
 use Rattle.replay_script.proofs.Order.{order_push, order_last, each_push, each_last, place_of_push}
-use Rattle.replay_script.proofs.Words.{decodes}
+use Rattle.b2_base.proofs.DigitsLemmas.{same_sixteen}
 use Rattle.b2_base.proofs.Cuts.{cut_once}
 use Rattle.replay_script.proofs.Cuts.{clean_number}
 use Rattle.replay_script.proofs.Keywords.{behind_at, behind_word, behind_open, behind_line, behind_ready, heads_differ}
-
-ok_same : {E : Type 0} (r : Result (List ℕ) E) (a b : List ℕ) → r ≡ Ok a → r ≡ Ok b → a ≡ b
-ok_same r a b first second = ap (λ x. result_unwrap_or x []) (sym first ∙ second)
-
-same_word : (m n : ℕ) → m < 2 ^ 64 → n < 2 ^ 64 → sixteen_digits m ≡ sixteen_digits n → m ≡ n
-same_word m n small_m small_n same =
-    let first = decodes (sixteen_digits m) m refl in
-    let second = decodes (sixteen_digits m) n same in
-    let bytes : to_be_bytes w64 m ≡ to_be_bytes w64 n = ok_same _ _ _ first second in
-    sym (from_be_bytes-to_be_bytes_8 m small_m) ∙ ap (from_be_bytes w64) bytes ∙ from_be_bytes-to_be_bytes_8 n small_n
 
 only_stop : (line : Line) → Fits line → codes "stop" ≡ line_text line → line ≡ stop
 only_stop (reading n) fits is = absurd (heads_differ is refl)
@@ -43,7 +30,7 @@ same_line (reading n) b fits_a fits_b same =
     ap reading (decimal_injective n found.0 fits_a found.2 found.3) ∙ sym found.1
 same_line (random n) b fits_a fits_b same =
     let found = behind_word (sixteen_digits n) b fits_b same in
-    ap random (same_word n found.0 fits_a found.2 found.3) ∙ sym found.1
+    ap random (same_sixteen n found.0 fits_a found.2 found.3) ∙ sym found.1
 same_line (opening n) b fits_a fits_b same =
     let found = behind_open (decimal n) b fits_b same in
     ap opening (decimal_injective n found.0 (omega arith) (omega (arith, found.2)) found.3) ∙ sym found.1

@@ -1,5 +1,5 @@
 -- What the reader has of a script so far: words for its own clauses.
-use Rattle.std.specs.Prelude.{◌≡◌, ◌≢◌, ℕ, ◌+◌, ◌<◌, ◌≤◌, List, [], ◌∷◌, ◌++◌, length, Option, MatchOption, fold, All, EachIndex, slice_index}
+use Rattle.std.specs.Prelude.{◌≡◌, ◌≢◌, ℕ, ◌+◌, ◌<◌, ◌≤◌, List, [], ◌∷◌, ◌++◌, length, Option, MatchOption, fold, EachIndex, slice_index}
 use Rattle.std.specs.Int.{IsInRange}
 use Rattle.replay_script.specs.Line.{Line, reading, random, opening, head, ready, stop, line_text, Fits, Begins, IsWordOrOpening, IsFirstHeadLine, IsHeadLine, IsReady, IsStop}
 use Rattle.replay_script.specs.Script.{text_of, head_part, words_part, reading_behind, conn_behind, IsBeginning, Says}
@@ -24,10 +24,6 @@ abbrev pub SpellsLine : List ℕ → Option Said → Type 0
 SpellsLine text result = MatchOption result
     ((line : Line) → Fits line → text ≢ line_text line)
     (λ line. Fits (line_of line) × (text ≡ line_text (line_of line)))
-
--- the text is cut at its first such byte, or has none
-abbrev pub IsCutAt : ℕ → List ℕ → List ℕ → List ℕ → Type 0
-IsCutAt byte text front rest = All (λ b. b ≢ byte) front × (text ≡ front ++ byte ∷ rest)
 
 -- decimal digits with no leading zero, but for 0 itself
 pub record IsPlainNumeral (text : List ℕ) : Type 0 where

@@ -2,11 +2,9 @@
 
 ghost use Rattle.std.specs.Prelude.{◌≡◌, ◌≢◌, ◌<◌, ◌^◌, ◌↔◌, ◌++◌, ℕ, List, slice_index, EachIndex, IsTrue, MatchOption, All, codes, decimal};
 ghost use Rattle.std.specs.Int.{IsInRange};
-ghost use Rattle.b2_base.specs.Digits.{sixteen_digits};
-ghost use Rattle.replay_script.specs.Reading.{line_of, SpellsLine, IsCutAt, IsPlainNumeral};
+ghost use Rattle.replay_script.specs.Reading.{line_of, SpellsLine, IsPlainNumeral};
 
-use hex::FromHex;
-use memchr::memchr;
+use b2_base::{behind, cut_at, read_sixteen};
 
 /// What a line says.
 #[derive(Clone, Copy, Debug)]
@@ -22,14 +20,6 @@ pub enum Said<'a> {
     /// The connection can take bytes.
     Ready(u32),
     Stop,
-}
-
-/// Cuts the text at the first such byte.
-pub fn cut_at(byte: u8, text: &[u8]) -> Option<(&[u8], &[u8])>
-    ensures { MatchOption result (All (λ b. b ≢ byte) text.now) (λ p. IsCutAt byte text.now p.0.now p.1.now) }
-{
-    let at = memchr(byte, text)?;
-    Some((&text[..at], &text[at + 1..]))
 }
 
 fn is_digits(text: &[u8]) -> bool
@@ -62,34 +52,11 @@ pub fn number_of(text: &[u8]) -> Option<u64>
     Some(number)
 }
 
-/// The word that is written as 16 lower-case hex digits.
-pub fn word_of(text: &[u8]) -> Option<u64>
-    ensures { MatchOption result ((n : ℕ) → n < 2 ^ 64 → text.now ≢ sixteen_digits n) (λ n. text.now ≡ sixteen_digits n) }
-{
-    let Ok(bytes) = <[u8; 8] as FromHex>::from_hex(text) else {
-        return None;
-    };
-    let mut again = [0u8; 16];
-    hex::encode_to_slice(&bytes, &mut again).unwrap();
-    if text == again.as_slice() {
-        Some(u64::from_be_bytes(bytes))
-    } else {
-        None
-    }
-}
-
 fn conn_of(text: &[u8]) -> Option<u32>
     ensures { MatchOption result ((n : ℕ) → n < 2 ^ 32 → text.now ≢ decimal n) (λ n. text.now ≡ decimal n) }
 {
     let number = number_of(text)?;
     u32::try_from(number).ok()
-}
-
-// What stands behind the prefix, where the text begins with it.
-fn behind<'a>(prefix: &[u8], text: &'a [u8]) -> Option<&'a [u8]>
-    ensures { MatchOption result ((rest : List ℕ) → text.now ≢ prefix.now ++ rest) (λ rest. text.now ≡ prefix.now ++ rest.now) }
-{
-    text.strip_prefix(prefix)
 }
 
 // The line of a head that is written so behind `line `.
@@ -115,7 +82,7 @@ pub fn read_line(text: &[u8]) -> Option<Said<'_>>
         return Some(Said::Reading(number_of(time)?));
     }
     if let Some(word) = behind(b"word ", text) {
-        return Some(Said::Random(word_of(word)?));
+        return Some(Said::Random(read_sixteen(word)?));
     }
     if let Some(conn) = behind(b"open ", text) {
         return Some(Said::Opening(conn_of(conn)?));

@@ -6,10 +6,10 @@ ghost use Rattle.replay_script.specs.Line.{Line, line_text};
 ghost use Rattle.replay_script.specs.Script.{IsBeginning, ReadsScript, HasFirstWrong, Says};
 ghost use Rattle.replay_script.specs.Reading.{Progress};
 
-use crate::line::{cut_at, read_line};
+use crate::line::read_line;
 use crate::place::Place;
 use crate::script::{Script, WrongLine};
-use b2_base::Or;
+use b2_base::{Or, cut_at};
 use std::alloc::Global;
 
 /// The most bytes of a script.
