@@ -4,6 +4,7 @@ use Rattle.serde_json.specs.View.{items_of}
 use Rattle.serde_json.specs.Data.{Data, null, string, number, unsigned, array, object, Items, no_members, put}
 use Rattle.b2_base.specs.Digits.{eight_digits, sixteen_digits}
 use Rattle.b2_base.specs.declared.settings.Settings.{Settings}
+use Rattle.rule_table.specs.Cap.{cap_names}
 use Rattle.b2_model.specs.Refusal.{status_of, code_of, message_of}
 use Rattle.b2_model.specs.Rules.{IsAdmitted, IsRefused}
 use Rattle.b2_model.specs.declared.refusal.Refusal.{Refusal}
@@ -21,19 +22,6 @@ abbrev pub IsAnswer : Settings → List ℕ → List ℕ → Answer → Type 0
 IsAnswer settings words head (Account token) = IsAdmitted settings head × (token ≡ token_text 1 1 (slice_index words 0) (slice_index words 1))
 IsAnswer settings words head (Refused refusal) = IsRefused settings head refusal
 
--- what the master key may do, in the order in which it is told
-abbrev pub capabilities : List (List ℕ)
-capabilities =
-    codes "listKeys" ∷ codes "writeKeys" ∷ codes "deleteKeys"
-    ∷ codes "listAllBucketNames" ∷ codes "listBuckets" ∷ codes "readBuckets" ∷ codes "writeBuckets" ∷ codes "deleteBuckets"
-    ∷ codes "readBucketRetentions" ∷ codes "writeBucketRetentions"
-    ∷ codes "readBucketEncryption" ∷ codes "writeBucketEncryption"
-    ∷ codes "readBucketReplications" ∷ codes "writeBucketReplications"
-    ∷ codes "readBucketNotifications" ∷ codes "writeBucketNotifications"
-    ∷ codes "listFiles" ∷ codes "readFiles" ∷ codes "shareFiles" ∷ codes "writeFiles" ∷ codes "deleteFiles"
-    ∷ codes "readFileLegalHolds" ∷ codes "writeFileLegalHolds"
-    ∷ codes "readFileRetentions" ∷ codes "writeFileRetentions" ∷ codes "bypassGovernance" ∷ []
-
 -- the texts as a list of JSON
 abbrev pub texts : List (List ℕ) → Items
 texts list = items_of (map string list)
@@ -48,7 +36,7 @@ storage_data settings = fields (
     ∷ (codes "apiUrl", string settings.url)
     ∷ (codes "bucketId", null)
     ∷ (codes "bucketName", null)
-    ∷ (codes "capabilities", array (texts capabilities))
+    ∷ (codes "capabilities", array (texts cap_names))
     ∷ (codes "downloadUrl", string settings.url)
     ∷ (codes "infoType", string (codes "storageApi"))
     ∷ (codes "namePrefix", null)

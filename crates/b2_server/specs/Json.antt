@@ -2,12 +2,13 @@
 use Rattle.std.specs.Prelude.{codes}
 use Rattle.serde_json.specs.Data.{null, string, number, unsigned, array, Members, put}
 use Rattle.b2_base.specs.declared.settings.Settings.{Settings}
-use Rattle.b2_model.specs.Answer.{texts, capabilities}
+use Rattle.rule_table.specs.Cap.{cap_names}
+use Rattle.b2_model.specs.Answer.{texts}
 
 -- the fields from absoluteMinimumPartSize to capabilities are put
 abbrev pub first_fields : Settings → Members → Members
 first_fields settings members =
-    put (codes "capabilities") (array (texts capabilities))
+    put (codes "capabilities") (array (texts cap_names))
     (put (codes "bucketName") null
     (put (codes "bucketId") null
     (put (codes "apiUrl") (string settings.url)

@@ -3,41 +3,13 @@
 ghost use Rattle.std.specs.Prelude.{◌≡◌, map, IfOk};
 ghost use Rattle.serde_json.specs.Data.{array};
 ghost use Rattle.serde_json.specs.View.{view};
-ghost use Rattle.b2_model.specs.Answer.{texts, capabilities};
+ghost use Rattle.rule_table.specs.Cap.{cap_names};
+ghost use Rattle.b2_model.specs.Answer.{texts};
 
 use b2_base::Memory;
+use rule_table::caps;
 use serde_json::Value;
 use std::alloc::Global;
-
-/// The capabilities of the master key, in the order of the B2 reference.
-pub const CAPABILITIES: [&str; 26] = [
-    "listKeys",
-    "writeKeys",
-    "deleteKeys",
-    "listAllBucketNames",
-    "listBuckets",
-    "readBuckets",
-    "writeBuckets",
-    "deleteBuckets",
-    "readBucketRetentions",
-    "writeBucketRetentions",
-    "readBucketEncryption",
-    "writeBucketEncryption",
-    "readBucketReplications",
-    "writeBucketReplications",
-    "readBucketNotifications",
-    "writeBucketNotifications",
-    "listFiles",
-    "readFiles",
-    "shareFiles",
-    "writeFiles",
-    "deleteFiles",
-    "readFileLegalHolds",
-    "writeFileLegalHolds",
-    "readFileRetentions",
-    "writeFileRetentions",
-    "bypassGovernance",
-];
 
 /// The texts as a list of JSON.
 fn text_list(alloc: Global, list: &[&str]) -> Result<Value, Memory>
@@ -50,9 +22,9 @@ fn text_list(alloc: Global, list: &[&str]) -> Result<Value, Memory>
     Ok(Value::Array(values))
 }
 
-/// The capabilities as a list of JSON.
+/// All capabilities as a list of JSON, which the master key has, in the order of their table.
 pub fn capability_list(alloc: Global) -> Result<Value, Memory>
-    ensures { IfOk result (λ v. view v ≡ array (texts capabilities)) }
+    ensures { IfOk result (λ v. view v ≡ array (texts cap_names)) }
 {
-    text_list(alloc, &CAPABILITIES)
+    text_list(alloc, caps().names())
 }

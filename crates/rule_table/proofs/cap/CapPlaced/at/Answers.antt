@@ -1,0 +1,7 @@
+use Rattle.std.proofs.Common.{◌∙◌}
+use Rattle.rule_table.specs.Cap.{cap_order}
+use Rattle.rule_table.proofs.Slots.{copied_at}
+use Rattle.rule_table.proofs.cap.CapPlaced.at.Goals as goal
+
+pub returns : goal.returns
+returns c = c.copied.ensures ∙ copied_at cap_order c.args.place c.get.result c.get.ensures.lookup

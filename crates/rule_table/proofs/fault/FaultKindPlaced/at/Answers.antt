@@ -1,0 +1,7 @@
+use Rattle.std.proofs.Common.{◌∙◌}
+use Rattle.rule_table.specs.FaultKind.{fault_order}
+use Rattle.rule_table.proofs.Slots.{copied_at}
+use Rattle.rule_table.proofs.fault.FaultKindPlaced.at.Goals as goal
+
+pub returns : goal.returns
+returns c = c.copied.ensures ∙ copied_at fault_order c.args.place c.get.result c.get.ensures.lookup

@@ -1,0 +1,35 @@
+//! First and last rows, near misses, and sets.
+
+use crate::{CallName, Cap, CapSet, FaultKind, FileKind, calls, caps, faults, types};
+use std::test::Fail;
+
+#[test]
+fn rows(rt: HostRuntime) -> Result<(), Fail> {
+    let table = caps();
+    for (name, cap) in [
+        ("listKeys", Some(Cap::ListKeys)),
+        ("bypassGovernance", Some(Cap::BypassGovernance)),
+        ("listkeys", None),
+        ("", None),
+    ] {
+        assert_eq!(rt; table.find(name.as_bytes()), cap);
+    }
+    assert_eq!(rt; table.name(Cap::ShareFiles), b"shareFiles".as_slice());
+    assert_eq!(rt; calls().find(b"b2_upload_part"), Some(CallName::UploadPart));
+    assert_eq!(rt; faults().find(b"P14"), Some(FaultKind::P14));
+    assert_eq!(rt; types().find(b"jpeg"), Some(FileKind::Jpeg));
+    Ok(())
+}
+
+#[test]
+fn sets(rt: HostRuntime) -> Result<(), Fail> {
+    let none = CapSet::none();
+    let one = none.with(Cap::ListFiles);
+    let two = one.with(Cap::ReadFiles);
+    assert!(rt; one.has(Cap::ListFiles));
+    assert!(rt; !one.has(Cap::ReadFiles));
+    assert!(rt; none.subset(&one) && one.subset(&two));
+    assert!(rt; !two.subset(&one));
+    assert_eq!(rt; one.with(Cap::ListFiles), one);
+    Ok(())
+}
