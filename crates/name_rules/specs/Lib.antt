@@ -1,0 +1,5 @@
+pub mod Bytes
+pub mod BucketName
+pub mod FileName
+pub mod Escape
+pub mod Folder
