@@ -1,6 +1,9 @@
 //! Names at their limits, and folders.
 
-use crate::{BucketFault, NameFault, bucket_name, encode_name, file_name, folder_of, is_prefix};
+use crate::{
+    BucketFault, EscapeFault, NameFault, bucket_name, decode_name, encode_name, file_name,
+    folder_of, is_prefix,
+};
 use b2_base::Or;
 use std::test::Fail;
 
@@ -43,6 +46,25 @@ fn files(rt: HostRuntime) -> Result<(), Fail> {
     assert_eq!(rt; name.get(), "a b/é");
     let text = encode_name(alloc, &name).ok().ok_or("memory")?;
     assert_eq!(rt; text.get(), "a%20b/%C3%A9");
+    Ok(())
+}
+
+#[test]
+fn escapes(rt: HostRuntime) -> Result<(), Fail> {
+    let alloc = rt.alloc();
+    let name = decode_name(alloc, b"a%20b+%2b/%C3%a9").ok().ok_or("name")?;
+    assert_eq!(rt; name.get(), "a b +/é");
+    for (bytes, fault) in [
+        ("a%2", EscapeFault::Escape(1)),
+        ("%41%4g%", EscapeFault::Escape(3)),
+        ("a%00", EscapeFault::Name(NameFault::Code(1))),
+        ("a%ff", EscapeFault::Name(NameFault::NotUtf8(1))),
+    ] {
+        let Err(Or::Fault(found)) = decode_name(alloc, bytes.as_bytes()) else {
+            return Err(Fail::from("taken"));
+        };
+        assert_eq!(rt; found, fault, "{bytes}");
+    }
     Ok(())
 }
 
