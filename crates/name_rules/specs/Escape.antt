@@ -1,5 +1,5 @@
 -- How a file's name is written in a path.
-use Rattle.std.specs.Prelude.{ℕ, Bool, ◌||◌, ◌==◌, List, [], ◌∷◌, if◌then◌else◌, codes}
+use Rattle.std.specs.Prelude.{ℕ, Bool, ◌||◌, ◌==◌, List, [], ◌∷◌, if◌then◌else◌, codes, IsTrue}
 use Rattle.std.specs.List.{flat_map, list_any}
 use Rattle.std.specs.Char.{is_ascii_alphanumeric}
 use Rattle.percent_encoding.specs.Percent.{percent_encode_byte}
@@ -14,3 +14,7 @@ escaped_byte byte = if is_plain byte then byte ∷ [] else percent_encode_byte b
 
 abbrev pub encoded_name : List ℕ → List ℕ
 encoded_name bytes = flat_map escaped_byte bytes
+
+-- a byte that stands for itself, or a percent sign
+abbrev pub IsSent : ℕ → Type 0
+IsSent byte = IsTrue (is_plain byte || byte == 37)

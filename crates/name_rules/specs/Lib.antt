@@ -4,3 +4,4 @@ pub mod FileName
 pub mod Escape
 pub mod Decode
 pub mod Folder
+pub mod InfoPairs

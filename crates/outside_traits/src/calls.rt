@@ -7,7 +7,7 @@ ghost use Rattle.outside_traits.specs.Causes.{raised, Rose};
 /// The calls of an object in memory.
 #[derive(Debug, Drop)]
 pub struct Calls {
-    /// The numbers of the calls that are to fail; the first call is call 1.
+    /// The numbers of the calls that are to fail, counted from 1.
     pub fails: Vec<u64>,
     /// How many calls were made. It stops at 2^64 - 1.
     pub made: u64,
