@@ -6,8 +6,9 @@ ghost use Rattle.b2_model.specs.Answer.{body_data, refusal_data};
 ghost use Rattle.b2_model.specs.Reply.{body_text};
 
 use crate::account::{account_value, put_number, put_text};
-use b2_base::{Memory, Settings};
+use b2_base::{Memory, Settings, Text};
 use b2_model::{Answer, Refusal};
+use json_shape::render;
 use serde_json::{Map, Value};
 use std::alloc::Global;
 
@@ -31,9 +32,9 @@ fn body_value(alloc: Global, settings: &Settings, answer: &Answer) -> Result<Val
 }
 
 /// The body of the reply to the answer: JSON with no space in it.
-pub fn body(alloc: Global, settings: &Settings, answer: &Answer) -> Result<Vec<u8>, Memory>
-    ensures { IfOk result (λ v. v.items ≡ body_text settings.now answer.now) }
+pub fn body(alloc: Global, settings: &Settings, answer: &Answer) -> Result<Text, Memory>
+    ensures { IfOk result (λ t. t ≡ body_text settings.now answer.now) }
 {
     let value = body_value(alloc, settings, answer)?;
-    Ok(value.to_vec(alloc)?)
+    render(alloc, &value)
 }

@@ -24,8 +24,9 @@ pub fn reply(alloc: Global, settings: &Settings, answer: &Answer) -> Result<Vec<
     ensures { IfOk result (λ v. v.items ≡ reply_of settings.now answer.now) }
 {
     let body = body(alloc, settings, answer)?;
+    let body = body.get().as_bytes();
     let head = reply_head(alloc, answer, body.len())?;
-    Ok(joined(alloc, head.get().as_bytes(), &body, b"")?)
+    Ok(joined(alloc, head.get().as_bytes(), body, b"")?)
 }
 
 /// What is shown of a connection on which the reply was sent whole, and which was then closed.
