@@ -1,0 +1,23 @@
+-- When a token is good, and how it is spelled.
+use Rattle.std.specs.Prelude.{ℕ, Bool, true, ◌&&◌, ◌+◌, nat_lt, List, ◌∷◌, ◌++◌, Option, Some, None, codes, bytes_eq, find}
+use Rattle.b2_base.specs.Digits.{eight_digits, sixteen_digits}
+use Rattle.b2_model.specs.declared.key.Grant.{Grant}
+use Rattle.b2_model.specs.Checks.{some_and}
+use Rattle.b2_model.specs.State.{State, key_at}
+
+-- the moment comes before the end, where there is one
+abbrev pub is_before_end : ℕ → Option ℕ → Bool
+is_before_end t None = true
+is_before_end t (Some end) = nat_lt t end
+
+-- its end is to come, and its key stands and has no end that has come
+abbrev pub is_live : {C : Type 0} → State C → ℕ → Grant → Bool
+is_live M t g = nat_lt t g.end && some_and (λ k. is_before_end t k.end) (key_at M g.key)
+
+abbrev pub grant_at : {C : Type 0} → State C → List ℕ → Option Grant
+grant_at M text = find (λ g. bytes_eq g.text text) M.grants
+
+-- the store's boot number, the token's serial since that boot, and two random words
+abbrev pub token_of : {C : Type 0} → State C → ℕ → ℕ → List ℕ
+token_of M first second =
+    codes "3_" ++ eight_digits M.boot ++ 95 ∷ sixteen_digits (M.serial + 1) ++ 95 ∷ sixteen_digits first ++ 95 ∷ sixteen_digits second

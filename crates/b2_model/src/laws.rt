@@ -1,0 +1,41 @@
+//! Laws of the machine over every state.
+
+ghost use Rattle.std.specs.Prelude.{◌≡◌, ℕ, ◌≤◌, ◌<◌, List, Some, true, false};
+ghost use Rattle.b2_model.specs.declared.fault.Fault.{Fault as TheFault};
+ghost use Rattle.b2_model.specs.declared.key.Flight.{Flight as TheFlight};
+ghost use Rattle.b2_model.specs.declared.call.Call.{Call as TheCall};
+ghost use Rattle.b2_model.specs.declared.upload.UploadCall.{UploadCall as TheUpload};
+ghost use Rattle.b2_model.specs.declared.shown.AnswerOf.TheVariants.{Refused};
+ghost use Rattle.b2_model.specs.Checks.{Check, first_fault, IsFirstFailing};
+ghost use Rattle.b2_model.specs.State.{State};
+ghost use Rattle.b2_model.specs.Ask.{ask, moved, refusals_of};
+ghost use Rattle.b2_model.specs.UploadSteps.{Body, begin, begin_refusals, end, lost};
+ghost use Rattle.b2_model.specs.Run.{Step, Progress, Keeps, moment, passed, step};
+
+/// The fault that is told is that of a rule that fails, and no rule before it does.
+#[tactic(auto, using(crate::proofs::Steps::first_failing))]
+pub fn first_failing_rule()
+    ensures { (checks : List Check) (fault : TheFault) → first_fault checks ≡ Some fault → IsFirstFailing checks fault }
+{}
+
+/// A call that is refused moves the moment of the state alone, and draws no word.
+#[tactic(auto, using(crate::proofs::Steps::refused_call))]
+pub fn refused_call<C>()
+    ensures { (size : C → ℕ) (M : State C) (t : ℕ) (words : List ℕ) (c : TheCall) (fault : TheFault)
+        → first_fault (refusals_of size M t words c) ≡ Some fault
+        → ask size M t words c ≡ record { state = moved M t; answer = Refused fault; words = words } }
+{}
+
+/// An upload whose begin is refused moves the moment of the state alone.
+#[tactic(auto, using(crate::proofs::Steps::refused_begin))]
+pub fn refused_begin<C>()
+    ensures { (M : State C) (t conn : ℕ) (u : TheUpload) (fault : TheFault)
+        → first_fault (begin_refusals M t u) ≡ Some fault
+        → begin M t conn u ≡ record { state = moved M t; fault = Some fault } }
+{}
+
+/// The moment of the state never falls, but where it is opened again.
+#[tactic(auto, using(crate::proofs::Steps::never_falls))]
+pub fn moment_never_falls<C>()
+    ensures { (size : C → ℕ) (P : Progress C) (s : Step C) → Keeps s → P.state.now ≤ (step size P s).state.now }
+{}

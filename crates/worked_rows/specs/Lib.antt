@@ -1,0 +1,13 @@
+pub mod Store
+pub mod Buckets
+pub mod Authorize
+pub mod Uploads
+pub mod Listings
+pub mod Limited
+pub mod Large
+pub mod Locked
+pub mod Lifecycle
+pub mod Keys
+pub mod Ends
+pub mod Downloads
+pub mod Runs

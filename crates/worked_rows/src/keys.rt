@@ -1,0 +1,32 @@
+//! Keys: their making, their deletion and their pages.
+
+ghost use Rattle.std.specs.Prelude.{◌≡◌, [], ◌∷◌, None, Some, codes, map, option_map};
+ghost use Rattle.rule_table.specs.declared.cap.Cap.TheVariants.{ListKeys, ListFiles, ReadFiles};
+ghost use Rattle.rule_table.specs.declared.fault.FaultKind.TheVariants.{KeyCaps, KeyLimit, NoBucket, NoKey, Master, Cap};
+ghost use Rattle.b2_model.specs.Checks.{plain};
+ghost use Rattle.worked_rows.specs.Store.{given, account, asked, refusal};
+ghost use Rattle.worked_rows.specs.Keys.{made_by, refused_to, its_token, deletion_of, page};
+
+/// A key has no more than its maker, and one that is limited to a bucket none of the five that reach
+/// beyond it; four words are drawn for its secret.
+pub fn new_keys()
+    ensures caps { refused_to its_token (ReadFiles ∷ []) None ≡ Some (plain KeyCaps) }
+    ensures limit { refused_to given (ListKeys ∷ []) (Some (1 ∷ [])) ≡ Some (plain KeyLimit) }
+    ensures bucket { refused_to given (ListFiles ∷ []) (Some (2 ∷ [])) ≡ Some (plain NoBucket) }
+    ensures nums { map (λ k. k.num) (made_by its_token (ListFiles ∷ []) (Some (1 ∷ []))).state.keys ≡ 0 ∷ 1 ∷ 2 ∷ [] }
+    ensures ends { map (λ k. k.end) (made_by its_token (ListFiles ∷ []) None).state.keys ≡ None ∷ None ∷ Some 61000 ∷ [] }
+    ensures words { (made_by its_token (ListFiles ∷ []) None).words ≡ [] }
+{}
+
+/// The master key stays, and an id of another account names no key.
+pub fn deletion_of_keys()
+    ensures master { deletion_of account ≡ Some (plain Master) }
+    ensures other { deletion_of (codes "001a1b2c3d4e5f70000000001") ≡ Some (plain NoKey) }
+    ensures gone { deletion_of (codes "001a1b2c3d4e5f60000000001") ≡ None }
+{}
+
+/// Pages are by number, and leave out the master key.
+pub fn pages_of_keys()
+    ensures rows { map (λ k. k.num) page.rows ≡ 1 ∷ [] }
+    ensures next { option_map (λ k. k.num) page.next ≡ Some 2 }
+{}

@@ -1,0 +1,31 @@
+//! Object Lock: deletions and changes of retention.
+
+ghost use Rattle.std.specs.Prelude.{◌≡◌, [], ◌∷◌, None, Some, true, false};
+ghost use Rattle.rule_table.specs.declared.fault.FaultKind.TheVariants.{P11, P12, P13, P14, LockOff, BadUntil, NoFile};
+ghost use Rattle.b2_model.specs.Checks.{plain};
+ghost use Rattle.worked_rows.specs.Store.{given};
+ghost use Rattle.worked_rows.specs.Locked.{governed, complied, plain_token, deleted_by, refused_by, change_refused, until, without_lock, other_name};
+
+/// Governance gives way to who may bypass it and asks to, compliance and a hold to nobody.
+pub fn deletion_under_locks()
+    ensures governance { refused_by given None governed false ≡ Some (plain P13) }
+    ensures bypass { refused_by plain_token (Some true) governed false ≡ Some (plain P14) }
+    ensures master { (deleted_by given (Some true) governed false).state.versions ≡ [] }
+    ensures compliance { refused_by given (Some true) complied false ≡ Some (plain P12) }
+    ensures by_plain { refused_by plain_token None complied false ≡ Some (plain P12) }
+    ensures hold { refused_by given (Some true) complied true ≡ Some (plain P11) }
+    ensures free { (deleted_by plain_token None None false).state.versions ≡ [] }
+    ensures name { other_name ≡ Some (plain NoFile) }
+{}
+
+/// A retention may be made longer by all, and shorter as far as its mode gives way.
+pub fn changes_of_retention()
+    ensures longer { change_refused None governed (until 9001) ≡ None }
+    ensures shorter { change_refused None governed (until 8999) ≡ Some (plain P13) }
+    ensures bypass { change_refused (Some true) governed None ≡ Some (plain P14) }
+    ensures compliance { change_refused None governed complied ≡ None }
+    ensures weaker { change_refused None complied governed ≡ Some (plain P12) }
+    ensures taken_off { change_refused (Some true) complied None ≡ Some (plain P12) }
+    ensures ended { change_refused None None (until 2000) ≡ Some (plain BadUntil) }
+    ensures off { without_lock ≡ Some (plain LockOff) }
+{}
