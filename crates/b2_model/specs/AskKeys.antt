@@ -31,10 +31,11 @@ use Rattle.b2_model.specs.Plan.{Plan, shows, writes, grants, or_absent, no_seria
 abbrev pub account_grant : {C : Type 0} → State C → ℕ → List ℕ → Key → Grant
 account_grant M t words k = record { text = new_token M words; kind = token.Account; key = k.num; bucket = 0; file = 0; prefix = []; end = later t day }
 
+abbrev pub authorized : {C : Type 0} → State C → ℕ → List ℕ → Key → Plan C
+authorized M t words k = grants (no_serial M ∷ []) (account_grant M t words k) (answer.Account (shown_account M k (new_token M words)))
+
 abbrev pub authorize : {C : Type 0} → State C → ℕ → List ℕ → Authorize → Plan C
-authorize M t words c = or_absent P2
-    (λ k. grants (no_serial M ∷ []) (account_grant M t words k) (answer.Account (shown_account M k (new_token M words))))
-    (option_and_then (key_by M) c.credentials)
+authorize M t words c = or_absent P2 (authorized M t words) (option_and_then (key_by M) c.credentials)
 
 -- a key that is limited to a bucket doesn't get these
 abbrev pub is_unlimited_cap : CapSet → Bool
@@ -73,10 +74,15 @@ create_key M key t words c = record {
   answer = answer.NewKey (shown_key M.settings (new_key M t words c)) (secret_text words);
 }
 
+-- the key of this id
+abbrev pub key_of_id : {C : Type 0} → State C → List ℕ → Option Key
+key_of_id M id = find (λ k. bytes_eq (key_id M.settings.account k.num) id) M.keys
+
+abbrev pub dropped : {C : Type 0} → State C → Key → Plan C
+dropped M k = writes (check Master (k.num == 0) ∷ []) (change.KeyDrop k.num) (answer.Key (shown_key M.settings k))
+
 abbrev pub delete_key : {C : Type 0} → State C → DeleteKey → Plan C
-delete_key M c = or_absent NoKey
-    (λ k. writes (check Master (k.num == 0) ∷ []) (change.KeyDrop k.num) (answer.Key (shown_key M.settings k)))
-    (find (λ k. bytes_eq (key_id M.settings.account k.num) c.key) M.keys)
+delete_key M c = or_absent NoKey (dropped M) (key_of_id M c.key)
 
 -- the number of an id: 0 of an account's, else that of its last ten digits
 abbrev pub key_number : List ℕ → ℕ

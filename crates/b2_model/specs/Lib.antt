@@ -32,3 +32,4 @@ pub mod Run
 pub mod LifecycleRules
 pub mod Stored
 pub mod FaultTable
+pub mod Contents

@@ -1,6 +1,6 @@
 //! Laws of the machine over every state.
 
-ghost use Rattle.std.specs.Prelude.{◌≡◌, ℕ, ◌≤◌, ◌<◌, List, Some, true, false};
+ghost use Rattle.std.specs.Prelude.{◌≡◌, ℕ, ◌≤◌, List, Some, map};
 ghost use Rattle.b2_model.specs.declared.fault.Fault.{Fault as TheFault};
 ghost use Rattle.b2_model.specs.declared.key.Flight.{Flight as TheFlight};
 ghost use Rattle.b2_model.specs.declared.call.Call.{Call as TheCall};
@@ -10,7 +10,8 @@ ghost use Rattle.b2_model.specs.Checks.{Check, first_fault, IsFirstFailing};
 ghost use Rattle.b2_model.specs.State.{State};
 ghost use Rattle.b2_model.specs.Ask.{ask, moved, refusals_of};
 ghost use Rattle.b2_model.specs.UploadSteps.{Body, begin, begin_refusals, end, lost};
-ghost use Rattle.b2_model.specs.Run.{Step, Progress, Keeps, moment, passed, step};
+ghost use Rattle.b2_model.specs.Run.{Step, Progress, Keeps, run, step};
+ghost use Rattle.b2_model.specs.Contents.{state_by, outcome_by, step_by, progress_by};
 
 /// The fault that is told is that of a rule that fails, and no rule before it does.
 #[tactic(auto, using(crate::proofs::Steps::first_failing))]
@@ -38,4 +39,15 @@ pub fn refused_begin<C>()
 #[tactic(auto, using(crate::proofs::Steps::never_falls))]
 pub fn moment_never_falls<C>()
     ensures { (size : C → ℕ) (P : Progress C) (s : Step C) → Keeps s → P.state.now ≤ (step size P s).state.now }
+{}
+
+/// What a run comes to does not look into contents: where each piece of content is replaced by one of the
+/// same length, every answer is the same but for the pieces that are sent, and the states differ in these
+/// pieces alone.
+#[tactic(auto, using(crate::proofs::CarriedAsk::ask_by))]
+pub fn same_for_all_contents<C, D>()
+    ensures call { (f : C → D) (size : D → ℕ) (length : C → ℕ) → ((c : C) → size (f c) ≡ length c) → (M : State C) (t : ℕ) (words : List ℕ) (c : TheCall)
+        → ask size (state_by f M) t words c ≡ outcome_by f (ask length M t words c) }
+    ensures run { (f : C → D) (size : D → ℕ) (length : C → ℕ) → ((c : C) → size (f c) ≡ length c) → (M : State C) (words : List ℕ) (steps : List (Step C))
+        → run size (state_by f M) words (map (step_by f) steps) ≡ progress_by f (run length M words steps) }
 {}

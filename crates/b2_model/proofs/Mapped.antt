@@ -1,0 +1,51 @@
+-- Lists under a map.
+use Rattle.std.proofs.Common.{◌≡◌, ℕ, ◌+◌, ◌<◌, Bool, true, false, not, List, [], ◌∷◌, ◌++◌, Option, Some, None, map, filter, find, option_map, take, drop, length, sum_by, nat_lt, nat_le, if◌then◌else◌, refl, sym, ap, ◌∙◌}
+use Rattle.std.specs.List.{list_any, list_all}
+use Rattle.std.proofs.lemmas.List.{length-map, map-append}
+use Rattle.std.proofs.lemmas.List.Sums.{sum_by-cons}
+use Rattle.std.specs.List.{take-map, drop-map}
+use Rattle.b2_model.specs.Pages.{Page, first_of, put_by, by_number, page_of, page_from}
+
+-- a choice under a function
+pub if_under : {X Y : Type 0} (g : X → Y) (b : Bool) (x y : X) → (if b then g x else g y) ≡ g (if b then x else y)
+if_under g true x y = refl
+if_under g false x y = refl
+
+module _ {X Y : Type 0} (g : X → Y) where
+  pub find-map : (q : Y → Bool) (xs : List X) → find q (map g xs) ≡ option_map g (find (λ x. q (g x)) xs)
+  find-map q [] = refl
+  find-map q (x ∷ xs) = ap (λ rest. if q (g x) then Some (g x) else rest) (find-map q xs) ∙ if_under (option_map g) (q (g x)) (Some x) (find (λ x. q (g x)) xs)
+
+  pub filter-map : (q : Y → Bool) (xs : List X) → filter q (map g xs) ≡ map g (filter (λ x. q (g x)) xs)
+  filter-map q [] = refl
+  filter-map q (x ∷ xs) =
+      ap (λ rest. if q (g x) then g x ∷ rest else rest) (filter-map q xs) ∙ if_under (map g) (q (g x)) (x ∷ filter (λ x. q (g x)) xs) (filter (λ x. q (g x)) xs)
+
+  pub any-map : (q : Y → Bool) (xs : List X) → list_any q (map g xs) ≡ list_any (λ x. q (g x)) xs
+  any-map q [] = refl
+  any-map q (x ∷ xs) = rw (any-map q xs) refl
+
+  pub first_of-map : (xs : List X) → first_of (map g xs) ≡ option_map g (first_of xs)
+  first_of-map [] = refl
+  first_of-map (x ∷ xs) = refl
+
+  -- the page of mapped rows
+  abbrev pub page_by : Page X → Page Y
+  page_by page = record { rows = map g page.rows; next = option_map g page.next }
+
+  pub page_of-map : (n : ℕ) (xs : List X) → page_of n (map g xs) ≡ page_by (page_of n xs)
+  page_of-map n xs = rw (take-map g n xs, drop-map g n xs, first_of-map (drop n xs)) refl
+
+  pub put_by-map : (num : Y → ℕ) (x : X) (xs : List X) → put_by num (g x) (map g xs) ≡ map g (put_by (λ x. num (g x)) x xs)
+  put_by-map num x [] = refl
+  put_by-map num x (y ∷ ys) =
+      ap (λ rest. if nat_lt (num (g x)) (num (g y)) then g x ∷ g y ∷ map g ys else g y ∷ rest) (put_by-map num x ys)
+      ∙ if_under (map g) (nat_lt (num (g x)) (num (g y))) (x ∷ y ∷ ys) (y ∷ put_by (λ x. num (g x)) x ys)
+
+  pub by_number-map : (num : Y → ℕ) (xs : List X) → by_number num (map g xs) ≡ map g (by_number (λ x. num (g x)) xs)
+  by_number-map num [] = refl
+  by_number-map num (x ∷ xs) = ap (put_by num (g x)) (by_number-map num xs) ∙ put_by-map num x (by_number (λ x. num (g x)) xs)
+
+  pub page_from-map : (num : Y → ℕ) (start n : ℕ) (xs : List X) → page_from num start n (map g xs) ≡ page_by (page_from (λ x. num (g x)) start n xs)
+  page_from-map num start n xs =
+      rw (by_number-map num xs, filter-map (λ y. nat_le start (num y)) (by_number (λ x. num (g x)) xs)) (page_of-map n (filter (λ x. nat_le start (num (g x))) (by_number (λ x. num (g x)) xs)))
