@@ -1,5 +1,5 @@
 -- Downloads, ranges and hiding.
-use Rattle.std.specs.Prelude.{ℕ, Bool, true, List, [], ◌∷◌, Option, Some, None, codes}
+use Rattle.std.specs.Prelude.{ℕ, Bool, true, false, List, [], ◌∷◌, Option, Some, None, codes}
 use Rattle.rule_table.specs.declared.fault.FaultKind.TheVariants.{Wrong}
 use Rattle.b2_model.specs.declared.kinds.TokenKind.TheVariants as token
 use Rattle.b2_model.specs.declared.fault.Fault.{Fault}
@@ -14,7 +14,7 @@ use Rattle.b2_model.specs.Checks.{worded}
 use Rattle.b2_model.specs.State.{State}
 use Rattle.b2_model.specs.Ask.{Outcome}
 use Rattle.b2_model.specs.Pass.{marker}
-use Rattle.worked_rows.specs.Store.{Bytes, given, master_grant, photos_1, with_bucket, with_versions, uploaded, started, asked, refusal}
+use Rattle.worked_rows.specs.Store.{Bytes, given, master_grant, bucket_of, photos_1, with_bucket, with_versions, uploaded, started, asked, refusal}
 
 -- `a.txt` is `abc`, `h` is hidden, `l` was started
 abbrev pub holding : State Bytes
@@ -53,3 +53,16 @@ shared = record holding { grants = record master_grant { text = codes "shared"; 
 
 abbrev pub shared_token : Option (List ℕ)
 shared_token = Some (codes "shared")
+
+abbrev pub other_bucket : Call
+other_bucket = call.DownloadFileByName (record { token = shared_token; bucket = codes "photos-2"; name = codes "a.txt"; range = None })
+
+abbrev pub listing : Call
+listing = call.ListFileNames (record { token = shared_token; bucket = 1; start = None; max = None; prefix = Some (codes "a"); delimiter = None; start_file = None })
+
+-- version 5 stands in bucket 2, which is private, beside the public bucket 1
+abbrev pub two_buckets : State Bytes
+two_buckets = record public {
+  buckets = record photos_1 { public = true } ∷ bucket_of 2 (codes "photos-2") false ∷ [];
+  versions = record (uploaded 1 5 (codes "b") (codes "b")) { bucket = 2 } ∷ [];
+}

@@ -1,14 +1,18 @@
 -- A large file from its parts.
-use Rattle.std.specs.Prelude.{ℕ, List, [], ◌∷◌, Option, codes}
+use Rattle.std.specs.Prelude.{ℕ, List, [], ◌∷◌, Option, Some, None, codes, map}
 use Rattle.b2_model.specs.declared.kinds.Mark.TheVariants as mark
 use Rattle.b2_model.specs.declared.fault.Fault.{Fault}
 use Rattle.b2_model.specs.declared.version.PartOf.{PartOf}
 use Rattle.b2_model.specs.declared.version.VersionOf.{VersionOf}
 use Rattle.b2_model.specs.declared.call.Call.TheVariants as call
+use Rattle.b2_model.specs.declared.kinds.Mode.TheVariants.{Governance}
+use Rattle.b2_model.specs.declared.kinds.Period.TheVariants.{Days}
+use Rattle.b2_model.specs.declared.shown.AnswerOf.{AnswerOf}
+use Rattle.b2_model.specs.declared.shown.AnswerOf.TheVariants as answer
 use Rattle.b2_model.specs.State.{State}
 use Rattle.b2_model.specs.Changes.{with_part}
 use Rattle.b2_model.specs.Ask.{Outcome}
-use Rattle.worked_rows.specs.Store.{Bytes, given, photos_1, with_bucket, with_versions, started, uploaded, asked, refusal}
+use Rattle.worked_rows.specs.Store.{Bytes, given, photos_1, locked, with_bucket, with_versions, started, uploaded, asked, refusal}
 
 -- ten bytes
 abbrev pub ten : ℕ → Bytes
@@ -57,3 +61,24 @@ cancelled = asked complete 3000 (call.CancelLargeFile (record { token = given; b
 -- the number alone names no file
 abbrev pub other_bucket : Option Fault
 other_bucket = refusal (asked complete 3000 (call.CancelLargeFile (record { token = given; bucket = 2; file = 1 }))).answer
+
+-- the parts that a listing shows: number and stamp
+abbrev pub listed_parts : AnswerOf Bytes → List (ℕ × ℕ)
+listed_parts (answer.Parts ps next) = map (λ p. (p.number, p.stamp)) ps
+listed_parts other = []
+
+-- part 1 was sent at 1500 and again at 1700
+abbrev pub sent_again : VersionOf Bytes
+sent_again = with_part (record (part 1 (ten 98) 8) { stamp = 1700 }) (record (started 1000 1 (codes "l")) { parts = first ∷ [] })
+
+abbrev pub parts_shown : List (ℕ × ℕ)
+parts_shown = listed_parts (asked (with_versions (sent_again ∷ []) (with_bucket photos_1)) 3000 (call.ListParts (record { token = given; bucket = 1; file = 1; start = None; max = None }))).answer
+
+abbrev pub behind_cancel : Option Fault
+behind_cancel = refusal (asked cancelled.state 4000 (call.CancelLargeFile (record { token = given; bucket = 1; file = 1 }))).answer
+
+-- the bucket has a default of one day of governance
+abbrev pub by_default : Outcome Bytes
+by_default = finished_with
+    (with_versions (record (started 0 1 (codes "l")) { parts = first ∷ [] } ∷ []) (with_bucket (record locked { default = Some (record { mode = Governance; period = Days 1 }) })))
+    ((7 ∷ []) ∷ [])

@@ -2,6 +2,7 @@
 use Rattle.std.specs.Prelude.{ℕ, Bool, true, false, List, [], ◌∷◌, Some, codes, map}
 use Rattle.b2_model.specs.declared.bucket.Rule.{Rule}
 use Rattle.b2_model.specs.State.{State}
+use Rattle.b2_model.specs.Pass.{marker}
 use Rattle.b2_model.specs.Run.{passed}
 use Rattle.worked_rows.specs.Store.{Bytes, photos_1, with_bucket, with_versions, uploaded, started}
 
@@ -36,3 +37,7 @@ begun_at_0 = with_versions (started 0 1 (codes "l") ∷ []) (with_bucket (record
 -- no number is left for a marker
 abbrev pub spent : State Bytes
 spent = let M = ruled false in record M { settings = record M.settings { last_version = 1 } }
+
+-- a marker of the second day stands alone
+abbrev pub lone_marker : State Bytes
+lone_marker = with_versions (marker 1 1 (codes "a") 86400000 ∷ []) (with_bucket (record photos_1 { rules = rule ∷ [] }))

@@ -45,6 +45,9 @@ change_refused bypass old new =
 abbrev pub until : ℕ → Option Retention
 until t = Some (record { mode = Governance; until = t })
 
+abbrev pub strict_until : ℕ → Option Retention
+strict_until t = Some (record { mode = Compliance; until = t })
+
 abbrev pub without_lock : Option Fault
 without_lock =
     refusal (asked (with_versions (uploaded 1000 1 (codes "a") [] ∷ []) (with_bucket photos_1)) 2000

@@ -1,12 +1,12 @@
 //! Downloads, ranges and hiding.
 
 ghost use Rattle.std.specs.Prelude.{◌≡◌, [], ◌∷◌, None, Some, codes, map, true, false};
-ghost use Rattle.rule_table.specs.declared.fault.FaultKind.TheVariants.{Range, NoFile, Hidden, Wrong, P1, P3, P10};
+ghost use Rattle.rule_table.specs.declared.fault.FaultKind.TheVariants.{Range, NoFile, Hidden, Wrong, P1, P3, P9, P10};
 ghost use Rattle.b2_model.specs.declared.call.ByteRange.TheVariants.{Between, From, Last};
 ghost use Rattle.b2_model.specs.declared.kinds.Action.TheVariants.{Upload, Hide, Start};
 ghost use Rattle.b2_model.specs.Checks.{plain, worded};
 ghost use Rattle.worked_rows.specs.Store.{refusal, given};
-ghost use Rattle.worked_rows.specs.Downloads.{holding, public, ranged, refused, by_name, by_id, hiding, bad_path, shared, shared_token};
+ghost use Rattle.worked_rows.specs.Downloads.{holding, public, ranged, refused, by_name, by_id, hiding, bad_path, shared, shared_token, other_bucket, listing, two_buckets};
 
 /// Ranges are cut to the content, and one without a byte of it is refused.
 pub fn ranges()
@@ -36,6 +36,8 @@ pub fn download_tokens()
     ensures served { refused shared (by_name shared_token (codes "a.txt") None) ≡ None }
     ensures prefix { refused shared (by_name shared_token (codes "h") None) ≡ Some (plain P10) }
     ensures kind { refused shared (by_id shared_token 1) ≡ Some (plain P3) }
+    ensures bucket { refused shared other_bucket ≡ Some (plain P9) }
+    ensures listing { refused shared listing ≡ Some (plain P3) }
 {}
 
 /// A marker hides a name that a version stands for; a start alone is none.
@@ -43,4 +45,9 @@ pub fn hiding_names()
     ensures marker { map (λ v. v.num) (hiding (codes "a.txt")).state.versions ≡ 1 ∷ 2 ∷ 3 ∷ 4 ∷ 5 ∷ [] }
     ensures hidden { refusal (hiding (codes "h")).answer ≡ Some (plain Hidden) }
     ensures started { refusal (hiding (codes "l")).answer ≡ Some (plain NoFile) }
+{}
+
+/// A file's number under another bucket's id names nothing, and reaches no file of a private bucket.
+pub fn number_alone()
+    ensures file { refused two_buckets (by_id None 5) ≡ Some (plain NoFile) }
 {}

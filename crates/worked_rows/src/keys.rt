@@ -2,10 +2,10 @@
 
 ghost use Rattle.std.specs.Prelude.{◌≡◌, [], ◌∷◌, None, Some, codes, map, option_map};
 ghost use Rattle.rule_table.specs.declared.cap.Cap.TheVariants.{ListKeys, ListFiles, ReadFiles};
-ghost use Rattle.rule_table.specs.declared.fault.FaultKind.TheVariants.{KeyCaps, KeyLimit, NoBucket, NoKey, Master, Cap};
+ghost use Rattle.rule_table.specs.declared.fault.FaultKind.TheVariants.{KeyCaps, KeyLimit, NoBucket, NoKey, Master, P6};
 ghost use Rattle.b2_model.specs.Checks.{plain};
-ghost use Rattle.worked_rows.specs.Store.{given, account, asked, refusal};
-ghost use Rattle.worked_rows.specs.Keys.{made_by, refused_to, its_token, deletion_of, page};
+ghost use Rattle.worked_rows.specs.Store.{given, account};
+ghost use Rattle.worked_rows.specs.Keys.{made_by, refused_to, its_token, deletion_of, page, short, secret, secret_text, account_of, too_late};
 
 /// A key has no more than its maker, and one that is limited to a bucket none of the five that reach
 /// beyond it; four words are drawn for its secret.
@@ -29,4 +29,11 @@ pub fn deletion_of_keys()
 pub fn pages_of_keys()
     ensures rows { map (λ k. k.num) page.rows ≡ 1 ∷ [] }
     ensures next { option_map (λ k. k.num) page.next ≡ Some 2 }
+{}
+
+/// A new key's secret is its four words, and the key authorizes with it until its end.
+pub fn key_for_a_second()
+    ensures secret { secret short.answer ≡ Some secret_text }
+    ensures num { map (λ g. g.key) (account_of secret_text).state.grants ≡ 0 ∷ 1 ∷ 2 ∷ [] }
+    ensures late { too_late ≡ Some (plain P6) }
 {}

@@ -16,10 +16,14 @@ mod uploads;
 
 pub use authorized::{authorize, wrong_secret};
 pub use buckets::{create_bucket, deletion_and_listing, locks_of_buckets, revision_conflict};
-pub use downloads::{download_tokens, downloads_by_name_and_id, hiding_names, ranges};
+pub use downloads::{
+    download_tokens, downloads_by_name_and_id, hiding_names, number_alone, ranges,
+};
 pub use ended::{begins, ends, numbers_spent, parts};
-pub use keys::{deletion_of_keys, new_keys, pages_of_keys};
-pub use large::{cancelled_large_file, large_file_from_parts};
+pub use keys::{deletion_of_keys, key_for_a_second, new_keys, pages_of_keys};
+pub use large::{
+    cancelled_large_file, default_at_the_finish, large_file_from_parts, part_sent_again,
+};
 pub use lifecycle::lifecycle_days;
 pub use limited::{deleted_key, key_with_a_prefix, life_of_a_token};
 pub use listings::{listing_of_versions, listing_with_folders};

@@ -4,7 +4,7 @@ ghost use Rattle.std.specs.Prelude.{◌≡◌, [], ◌∷◌, None, Some, true, 
 ghost use Rattle.rule_table.specs.declared.fault.FaultKind.TheVariants.{P11, P12, P13, P14, LockOff, BadUntil, NoFile};
 ghost use Rattle.b2_model.specs.Checks.{plain};
 ghost use Rattle.worked_rows.specs.Store.{given};
-ghost use Rattle.worked_rows.specs.Locked.{governed, complied, plain_token, deleted_by, refused_by, change_refused, until, without_lock, other_name};
+ghost use Rattle.worked_rows.specs.Locked.{governed, complied, plain_token, deleted_by, refused_by, change_refused, until, strict_until, without_lock, other_name};
 
 /// Governance gives way to who may bypass it and asks to, compliance and a hold to nobody.
 pub fn deletion_under_locks()
@@ -24,6 +24,8 @@ pub fn changes_of_retention()
     ensures shorter { change_refused None governed (until 8999) ≡ Some (plain P13) }
     ensures bypass { change_refused (Some true) governed None ≡ Some (plain P14) }
     ensures compliance { change_refused None governed complied ≡ None }
+    ensures strict { change_refused None complied (strict_until 8999) ≡ Some (plain P12) }
+    ensures same { change_refused None complied (strict_until 9000) ≡ None }
     ensures weaker { change_refused None complied governed ≡ Some (plain P12) }
     ensures taken_off { change_refused (Some true) complied None ≡ Some (plain P12) }
     ensures ended { change_refused None None (until 2000) ≡ Some (plain BadUntil) }
