@@ -1,13 +1,27 @@
 -- The answer to an authorize request, and its body (the B2 Native API v3, b2_authorize_account).
-use Rattle.std.specs.Prelude.{◌≡◌, ℕ, List, [], ◌∷◌, ◌++◌, map, fold, codes, slice_index}
+use Rattle.std.specs.Prelude.{◌≡◌, ⊤, ℕ, List, [], ◌∷◌, ◌++◌, Option, Some, None, map, fold, codes, length, slice_index}
 use Rattle.serde_json.specs.View.{items_of}
 use Rattle.serde_json.specs.Data.{Data, null, string, number, unsigned, array, object, Items, no_members, put}
 use Rattle.b2_base.specs.Digits.{eight_digits, sixteen_digits}
 use Rattle.b2_base.specs.declared.settings.Settings.{Settings}
 use Rattle.rule_table.specs.Cap.{cap_names}
 use Rattle.b2_model.specs.Refusal.{status_of, code_of, message_of}
-use Rattle.b2_model.specs.Rules.{IsAdmitted, IsRefused}
+use Rattle.b2_model.specs.Head.{IsHead}
+use Rattle.b2_model.specs.Rules.{GivesPair, IsAdmitted, IsRefused}
 use Rattle.b2_model.specs.declared.refusal.Refusal.{Refusal}
+use Rattle.httparse.specs.Grammar.{RequestHead}
+use Rattle.rule_table.specs.declared.fault.FaultKind.{FaultKind}
+use Rattle.rule_table.specs.declared.fault.FaultKind.TheVariants as kind
+use Rattle.b2_model.specs.declared.fault.Fault.{Fault}
+use Rattle.b2_model.specs.declared.call.Call.TheVariants as call
+use Rattle.b2_model.specs.declared.shown.AnswerOf.{AnswerOf}
+use Rattle.b2_model.specs.declared.shown.AnswerOf.TheVariants as shown
+use Rattle.b2_model.specs.declared.refusal.Refusal.TheVariants as refusal
+use Rattle.b2_model.specs.Checks.{plain}
+use Rattle.b2_model.specs.State.{State}
+use Rattle.b2_model.specs.Changes.{begun}
+use Rattle.b2_model.specs.Ask.{ask}
+use Rattle.b2_model.specs.Run.{restarted}
 use Rattle.b2_model.specs.declared.answer.Answer.{Answer}
 use Rattle.b2_model.specs.declared.answer.Answer.TheVariants.{Account, Refused}
 
@@ -16,11 +30,54 @@ abbrev pub token_text : ℕ → ℕ → ℕ → ℕ → List ℕ
 token_text boot serial first second =
     codes "3_" ++ eight_digits boot ++ 95 ∷ sixteen_digits serial ++ 95 ∷ sixteen_digits first ++ 95 ∷ sixteen_digits second
 
--- The answer of a store that was opened once and has given no token yet. Behind the words that are
--- given come zeros.
+-- a store that was made and opened once, and has given no token yet
+abbrev pub opened : Settings → State (List ℕ)
+opened settings = restarted (begun settings 0) 0
+
+-- what the version machine answers to an authorize call with these credentials, at this moment
+abbrev pub machine_answer : Settings → ℕ → List ℕ → Option (List ℕ × List ℕ) → AnswerOf (List ℕ)
+machine_answer settings t words credentials = (ask length (opened settings) t words (call.AuthorizeAccount (record { credentials = credentials }))).answer
+
+-- the token that an answer gives for an account
+abbrev pub token_in : AnswerOf (List ℕ) → Option (List ℕ)
+token_in (shown.Account account) = Some account.token
+token_in other = None
+
+abbrev pub fault_in : AnswerOf (List ℕ) → Option Fault
+fault_in (shown.Refused fault) = Some fault
+fault_in other = None
+
+-- the id and the secret that the head's first Authorization field gives, or none
+abbrev pub HasCredentials : RequestHead → Option (List ℕ × List ℕ) → Type 0
+HasCredentials h None = (user secret : List ℕ) → GivesPair h user secret → ⊥
+HasCredentials h (Some pair) = GivesPair h pair.0 pair.1
+
+-- the version machine gives this token for the request, at every moment
+abbrev pub MachineGives : Settings → List ℕ → List ℕ → List ℕ → Type 0
+MachineGives settings words head token =
+    (h : RequestHead) × IsHead head h × (pair : List ℕ × List ℕ) × HasCredentials h (Some pair) × ((t : ℕ) → token_in (machine_answer settings t words (Some pair)) ≡ Some token)
+
+-- the version machine refuses the request so, at every moment
+abbrev pub MachineRefuses : Settings → List ℕ → List ℕ → FaultKind → Type 0
+MachineRefuses settings words head kind =
+    (h : RequestHead) × IsHead head h × (credentials : Option (List ℕ × List ℕ)) × HasCredentials h credentials
+    × ((t : ℕ) → fault_in (machine_answer settings t words credentials) ≡ Some (plain kind))
+
+-- A refusal that names a rule of the policy is the machine's; the others are of the request's form.
+abbrev pub IsMachines : Settings → List ℕ → List ℕ → Refusal → Type 0
+IsMachines settings words head refusal.BadHead = ⊤
+IsMachines settings words head refusal.NoCall = ⊤
+IsMachines settings words head refusal.BadMethod = ⊤
+IsMachines settings words head refusal.BadLength = ⊤
+IsMachines settings words head refusal.P1 = MachineRefuses settings words head kind.P1
+IsMachines settings words head refusal.P2 = MachineRefuses settings words head kind.P2
+
+-- The answer of a store that was opened once and has given no token yet; it is the version machine's.
+-- Behind the words that are given come zeros.
 abbrev pub IsAnswer : Settings → List ℕ → List ℕ → Answer → Type 0
-IsAnswer settings words head (Account token) = IsAdmitted settings head × (token ≡ token_text 1 1 (slice_index words 0) (slice_index words 1))
-IsAnswer settings words head (Refused refusal) = IsRefused settings head refusal
+IsAnswer settings words head (Account token) =
+    IsAdmitted settings head × (token ≡ token_text 1 1 (slice_index words 0) (slice_index words 1)) × MachineGives settings words head token
+IsAnswer settings words head (Refused refusal) = IsRefused settings head refusal × IsMachines settings words head refusal
 
 -- the texts as a list of JSON
 abbrev pub texts : List (List ℕ) → Items

@@ -1,5 +1,5 @@
 -- A request breaks the first rule on credentials, or the second.
-use Rattle.std.proofs.Common.{◌≡◌, ℕ, List, false, ◌||◌, Option, None, Some, codes, refl, sym, ap, ◌∙◌, inl, inr, subst}
+use Rattle.std.proofs.Common.{◌≡◌, ℕ, List, false, ◌||◌, Option, None, Some, codes, refl, sym, ap, ◌∙◌, inl, inr, subst, slice_index}
 use Rattle.std.specs.Option.{option_map, is_some, unwrap_or}
 use Rattle.std.proofs.lemmas.Bool.{false≢true}
 use Rattle.httparse.specs.Grammar.{RequestHead}
@@ -7,7 +7,11 @@ use Rattle.sha2.specs.Sha256.{sha256}
 use Rattle.b2_base.specs.declared.settings.Settings.{Settings}
 use Rattle.b2_model.specs.Head.{IsHead, value_of}
 use Rattle.b2_model.specs.Basic.{IsBasic}
-use Rattle.b2_model.specs.Rules.{IsRefused, Keeps}
+use Rattle.b2_model.specs.Rules.{IsAdmitted, IsRefused, Keeps}
+use Rattle.b2_model.specs.Answer.{token_text, MachineGives, IsAnswer}
+use Rattle.b2_model.proofs.FirstPath.{admitted_gives, refused_so}
+use Rattle.b2_model.specs.declared.answer.Answer.TheVariants.{Account, Refused}
+use Rattle.b2_model.specs.declared.refusal.Refusal.{Refusal}
 use Rattle.b2_model.specs.declared.refusal.Refusal.TheVariants.{NoCall, BadMethod, BadLength, P1, P2}
 use Rattle.http_edge.specs.Head.{Tells}
 use Rattle.http_edge.specs.declared.head.Head.{Head}
@@ -74,3 +78,11 @@ breaks_second settings bytes head h user secret form gives wrong =
         ),
       ),
     )
+
+-- ---- the version machine's answer
+
+pub machines_token : (settings : Settings) (words bytes token : List ℕ) → IsAdmitted settings bytes → token ≡ token_text 1 1 (slice_index words 0) (slice_index words 1) → IsAnswer settings words bytes (Account token)
+machines_token settings words bytes token admitted is = (admitted, is, subst (MachineGives settings words bytes) (sym is) (admitted_gives settings words bytes admitted))
+
+pub machines_refusal : (settings : Settings) (words bytes : List ℕ) (refusal : Refusal) → IsRefused settings bytes refusal → IsAnswer settings words bytes (Refused refusal)
+machines_refusal settings words bytes refusal refused = (refused, refused_so settings words bytes refusal refused)

@@ -46,9 +46,9 @@ one_refusal settings bytes a b (inr (h, is, broken)) (inr (k, other, breaks)) =
 
 pub one_answer : (settings : Settings) (words head : List ℕ) (a b : Answer) → IsAnswer settings words head a → IsAnswer settings words head b → a ≡ b
 one_answer settings words head (Account token) (Account other) first second = ap Account (first.1 ∙ sym second.1)
-one_answer settings words head (Account token) (Refused refusal) first second = absurd (not_both settings head refusal first.0 second)
-one_answer settings words head (Refused refusal) (Account token) first second = absurd (not_both settings head refusal second.0 first)
-one_answer settings words head (Refused refusal) (Refused other) first second = ap Refused (one_refusal settings head refusal other first second)
+one_answer settings words head (Account token) (Refused refusal) first second = absurd (not_both settings head refusal first.0 second.0)
+one_answer settings words head (Refused refusal) (Account token) first second = absurd (not_both settings head refusal second.0 first.0)
+one_answer settings words head (Refused refusal) (Refused other) first second = ap Refused (one_refusal settings head refusal other first.0 second.0)
 
 pub one_shown : ((bytes : List ℕ) (a b : List Line) → ReadsScript bytes a → ReadsScript bytes b → a ≡ b)
     → (bytes first second : List ℕ) → HasOutput bytes first → HasOutput bytes second → first ≡ second
