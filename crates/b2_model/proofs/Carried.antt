@@ -1,6 +1,5 @@
 -- Rows, pages and what is shown, under a change of contents.
-use Rattle.std.proofs.Common.{◌≡◌, ℕ, ◌+◌, Bool, true, false, not, ◌&&◌, ◌==◌, List, [], ◌∷◌, ◌++◌, Option, Some, None, map, filter, find, fold, option_map, bytes_eq, sum_by, if◌then◌else◌, refl, sym, ap, ◌∙◌, unwrap_or}
-use Rattle.std.proofs.lemmas.List.{length-map}
+use Rattle.std.proofs.Common.{◌≡◌, ℕ, ◌+◌, not, ◌&&◌, ◌==◌, List, [], ◌∷◌, Option, Some, None, map, filter, fold, option_map, bytes_eq, sum_by, if◌then◌else◌, refl, sym, ap, ◌∙◌}
 use Rattle.std.proofs.lemmas.List.Sums.{sum_by-cons}
 use Rattle.std.proofs.lemmas.Simd.{map-map}
 use Rattle.b2_base.specs.declared.settings.Settings.{Settings}
@@ -13,10 +12,10 @@ use Rattle.b2_model.specs.State.{State, length_of}
 use Rattle.b2_model.specs.Rows.{is_before, placed, sorted, rows, version_at}
 use Rattle.b2_model.specs.Current.{current_in, current}
 use Rattle.b2_model.specs.Naming.{name_at}
-use Rattle.b2_model.specs.Pages.{Row, file, folder, Page, Listing, with_prefix, is_current, visible, folder_in, or_file, row_of, row_name, row_num, same_folder, before_others, with_folders, is_from, page_of, page_size, listed, names_page, versions_page, unfinished_page, parts_page, page_from}
-use Rattle.b2_model.specs.Shown.{shown_file, shown_row, shown_folder, shown_part}
+use Rattle.b2_model.specs.Pages.{Row, file, folder, Listing, with_prefix, is_current, visible, folder_in, or_file, row_of, same_folder, before_others, with_folders, is_from, page_size, listed, names_page, versions_page, unfinished_page, parts_page, page_from}
+use Rattle.b2_model.specs.Shown.{shown_file, shown_row, shown_part}
 use Rattle.b2_model.specs.Contents.{part_by, version_by, state_by, row_by}
-use Rattle.b2_model.proofs.Mapped.{if_under, find-map, filter-map, any-map, page_by, page_of-map, by_number-map, page_from-map}
+use Rattle.b2_model.proofs.Mapped.{if_under, find-map, filter-map, page_by, page_of-map, page_from-map}
 
 module _ {C D : Type 0} (f : C → D) where
   placed-by : (v : VersionOf C) (ws : List (VersionOf C)) → placed (version_by f v) (map (version_by f) ws) ≡ map (version_by f) (placed v ws)

@@ -1,7 +1,6 @@
 -- Calls under a change of contents.
-use Rattle.std.proofs.Common.{◌≡◌, ℕ, ◌+◌, Bool, true, false, not, ◌&&◌, ◌==◌, List, [], ◌∷◌, ◌++◌, Option, Some, None, map, option_map, option_and_then, length, drop, bytes_eq, nat_lt, if◌then◌else◌, unwrap_or, refl, sym, ap, ◌∙◌}
-use Rattle.std.specs.List.{list_any}
-use Rattle.std.specs.Option.{is_none, is_some}
+use Rattle.std.proofs.Common.{◌≡◌, ℕ, ◌+◌, ◌==◌, List, [], ◌∷◌, Option, Some, None, map, option_map, option_and_then, drop, bytes_eq, nat_lt, if◌then◌else◌, unwrap_or, refl, ap, ◌∙◌}
+use Rattle.std.specs.Option.{is_none}
 use Rattle.std.proofs.lemmas.List.{length-map}
 use Rattle.rule_table.specs.declared.cap.Cap.{Cap}
 use Rattle.rule_table.specs.declared.fault.FaultKind.{FaultKind}
@@ -24,7 +23,7 @@ use Rattle.b2_model.specs.Rows.{version_at}
 use Rattle.b2_model.specs.Current.{current}
 use Rattle.b2_model.specs.Naming.{Place, nowhere, numbered, several, filtered, by_name, is_outside, place_of, account_of, file_of, text_of, bucket_named, given_token}
 use Rattle.b2_model.specs.Need.{needed_caps}
-use Rattle.b2_model.specs.Denial.{key_by, limits, is_empty, Caller, caller_of, call_rules, name_rule}
+use Rattle.b2_model.specs.Denial.{key_by, limits, Caller, caller_of, call_rules}
 use Rattle.b2_model.specs.Pages.{row_name, row_num, Row, file, folder, Page, names_page, versions_page, unfinished_page, parts_page}
 use Rattle.b2_model.specs.Shown.{shown_file, shown_row, shown_part}
 use Rattle.b2_model.specs.declared.shown.AnswerOf.TheVariants as answer
@@ -36,9 +35,9 @@ use Rattle.b2_model.specs.AskListings.{listing_of}
 use Rattle.b2_model.specs.Finish.{ordered, gap_from, differs, small, finish_rules, finished}
 use Rattle.b2_model.specs.Plan.{Plan, shows, writes, id_of, or_absent, on_bucket, on_file}
 use Rattle.b2_model.specs.AskDownloads.{content, or_refused}
-use Rattle.b2_model.specs.Ask.{plan, plan_of, is_open, first_rules, next_rules, text_or_name, policy_rules, refusals, refusals_of, Outcome, moved, with_change, with_grant, carried_out, judged, ask}
+use Rattle.b2_model.specs.Ask.{plan, plan_of, is_open, first_rules, next_rules, text_or_name, policy_rules, refusals, refusals_of, moved, with_change, with_grant, judged, ask}
 use Rattle.b2_model.specs.Contents.{part_by, version_by, state_by, row_by, change_by, plan_by, outcome_by, answer_by}
-use Rattle.b2_model.proofs.Mapped.{any-map, page_by}
+use Rattle.b2_model.proofs.Mapped.{any-map}
 use Rattle.b2_model.proofs.Carried.{version_at-by, current-by, name_at-by, names_page-by, versions_page-by, unfinished-by, parts_page-by, length_of-by, shown_file-by, shown_rows-by, shown_files-by, shown_parts-by}
 use Rattle.b2_model.proofs.CarriedPass.{ordered-by, finished-by, changed-by}
 

@@ -1,7 +1,7 @@
 -- The lifecycle pass, and what records make of a state, under a change of contents.
-use Rattle.std.proofs.Common.{◌≡◌, ℕ, ◌+◌, ◌/◌, ◌≤◌, Bool, true, false, not, ◌&&◌, ◌==◌, nat_le, max, List, [], ◌∷◌, ◌++◌, Option, Some, None, map, filter, find, fold, bytes_eq, if◌then◌else◌, refl, sym, ap, ◌∙◌}
+use Rattle.std.proofs.Common.{◌≡◌, ℕ, ◌+◌, ◌/◌, Bool, not, ◌&&◌, ◌==◌, nat_le, List, [], ◌∷◌, ◌++◌, Option, Some, None, map, filter, fold, bytes_eq, if◌then◌else◌, refl, sym, ap, ◌∙◌}
 use Rattle.std.specs.List.{list_any}
-use Rattle.std.proofs.lemmas.List.{length-map, map-append}
+use Rattle.std.proofs.lemmas.List.{map-append}
 use Rattle.std.proofs.lemmas.Simd.{map-map}
 use Rattle.b2_model.specs.declared.bucket.Bucket.{Bucket}
 use Rattle.b2_model.specs.declared.bucket.Rule.{Rule}
@@ -13,16 +13,15 @@ use Rattle.b2_model.specs.declared.record.ChangeOf.{ChangeOf}
 use Rattle.b2_model.specs.declared.record.ChangeOf.TheVariants as change
 use Rattle.b2_model.specs.declared.version.PartOf.{PartOf}
 use Rattle.b2_model.specs.declared.version.VersionOf.{VersionOf}
-use Rattle.b2_model.specs.Kinds.{is_upload, is_hide, is_start, day}
+use Rattle.b2_model.specs.Kinds.{is_hide, is_start, day}
 use Rattle.b2_model.specs.State.{State}
 use Rattle.b2_model.specs.Rows.{rows}
-use Rattle.b2_model.specs.Locks.{protected}
 use Rattle.b2_model.specs.Pages.{by_number}
-use Rattle.b2_model.specs.Pass.{has_aged, rule_for, marker, is_due, goes_under, lower_drops, all_go, drops, without, names_in, hidden, of_name, cancels, pass_on, pass_names, pass_buckets, swept, pass, twenty_zeros}
+use Rattle.b2_model.specs.Pass.{has_aged, rule_for, marker, is_due, goes_under, lower_drops, all_go, drops, without, names_in, hidden, of_name, cancels, pass_on, pass_names, swept, pass, twenty_zeros}
 use Rattle.b2_model.specs.Finish.{ordered, finished}
-use Rattle.b2_model.specs.Changes.{made, with_version, is_it, at_version, without_version, with_part, changed, applied}
+use Rattle.b2_model.specs.Changes.{made, with_version, is_it, at_version, without_version, with_part, changed}
 use Rattle.b2_model.specs.Contents.{part_by, version_by, state_by, change_by}
-use Rattle.b2_model.proofs.Mapped.{if_under, find-map, filter-map, any-map, by_number-map}
+use Rattle.b2_model.proofs.Mapped.{if_under, filter-map, any-map, by_number-map}
 use Rattle.b2_model.proofs.Carried.{rows-by}
 
 module _ {C D : Type 0} (f : C → D) where

@@ -1,38 +1,29 @@
 -- Uploads, steps and runs under a change of contents.
-use Rattle.std.proofs.Common.{◌≡◌, ℕ, ◌+◌, ◌/◌, Bool, true, false, not, nat_lt, List, [], ◌∷◌, ◌++◌, Option, Some, None, map, option_map, fold, drop, if◌then◌else◌, refl, sym, ap, ◌∙◌}
+use Rattle.std.proofs.Common.{◌≡◌, ℕ, ◌/◌, nat_lt, List, [], ◌∷◌, ◌++◌, Option, Some, None, map, option_map, fold, if◌then◌else◌, refl, ap, ◌∙◌}
 use Rattle.std.proofs.lemmas.List.{map-append}
-use Rattle.rule_table.specs.declared.fault.FaultKind.TheVariants.{BadDigest}
 use Rattle.b2_model.specs.declared.fault.Fault.{Fault}
-use Rattle.b2_model.specs.declared.bucket.Bucket.{Bucket}
 use Rattle.b2_model.specs.declared.key.Flight.{Flight}
 use Rattle.b2_model.specs.declared.kinds.Action.TheVariants as action
-use Rattle.b2_model.specs.declared.upload.FileUpload.{FileUpload}
 use Rattle.b2_model.specs.declared.upload.DigestRule.{DigestRule}
 use Rattle.b2_model.specs.declared.upload.DigestRule.TheVariants as rule
 use Rattle.b2_model.specs.declared.upload.UploadCall.{UploadCall}
 use Rattle.b2_model.specs.declared.upload.UploadCall.TheVariants as upload
-use Rattle.b2_model.specs.declared.record.ChangeOf.TheVariants as change
 use Rattle.b2_model.specs.declared.shown.AnswerOf.TheVariants as answer
 use Rattle.b2_model.specs.declared.version.VersionOf.{VersionOf}
 use Rattle.b2_model.specs.Kinds.{day}
-use Rattle.b2_model.specs.Checks.{Check, check, first_fault}
+use Rattle.b2_model.specs.Checks.{Check, first_fault}
 use Rattle.b2_model.specs.State.{State}
 use Rattle.b2_model.specs.Rows.{version_at}
-use Rattle.b2_model.specs.Denial.{Caller, caller_of, name_rule}
-use Rattle.b2_model.specs.Naming.{numbered}
-use Rattle.b2_model.specs.Need.{upload_caps}
-use Rattle.b2_model.specs.Changes.{made, applied}
-use Rattle.b2_model.specs.Shown.{shown_file, shown_part}
-use Rattle.b2_model.specs.Plan.{Plan, writes, id_of, no_version, lock_off, bad_until}
-use Rattle.b2_model.specs.AskLarge.{not_large}
+use Rattle.b2_model.specs.Denial.{Caller, caller_of}
+use Rattle.b2_model.specs.Changes.{made}
 use Rattle.b2_model.specs.Ask.{Outcome, judged, ask}
-use Rattle.b2_model.specs.UploadSteps.{upload_token, upload_policy, upload_exists, large_of, at_begin, begin_refusals, Begun, begun_as, begin, Body, agrees, mark_of, new_upload, end_plan, flight_of, lost, ended, end}
-use Rattle.b2_model.specs.Run.{Step, asks, begins, ends, loses, passes, restarts, Progress, moment, passed, in_day, reopened, restarted, answered, begun_in, ended_in, step, run}
-use Rattle.b2_model.specs.Contents.{part_by, version_by, state_by, plan_by, outcome_by, answer_by, body_by, begun_by, step_by, progress_by}
+use Rattle.b2_model.specs.UploadSteps.{upload_token, upload_policy, upload_exists, large_of, at_begin, begin_refusals, begun_as, begin, Body, agrees, mark_of, new_upload, end_plan, flight_of, lost, ended, end}
+use Rattle.b2_model.specs.Run.{Step, asks, begins, ends, loses, passes, restarts, Progress, moment, passed, in_day, answered, begun_in, ended_in, step, run}
+use Rattle.b2_model.specs.Contents.{version_by, state_by, plan_by, outcome_by, answer_by, body_by, begun_by, step_by, progress_by}
 use Rattle.b2_model.proofs.Mapped.{if_under}
 use Rattle.b2_model.proofs.Carried.{version_at-by, name_at-by, shown_file-by, shown_part-by}
-use Rattle.b2_model.proofs.CarriedPass.{changed-by, pass-by}
-use Rattle.b2_model.proofs.CarriedAsk.{on_bucket-by, on_file-by, none-by, call_rules-by, judged-by, ask_by}
+use Rattle.b2_model.proofs.CarriedPass.{pass-by}
+use Rattle.b2_model.proofs.CarriedAsk.{on_bucket-by, on_file-by, none-by, judged-by, ask_by}
 
 module _ {C D : Type 0} (f : C → D) where
   policy-by : (M : State C) (t : ℕ) (who : Caller) (u : UploadCall) (exists : List Check) → upload_policy (state_by f M) t who u exists ≡ upload_policy M t who u exists

@@ -1,14 +1,14 @@
--- The rules of an authorize request are those of the version machine.
-use Rattle.std.proofs.Common.{◌≡◌, ℕ, Bool, true, false, not, ◌&&◌, List, [], ◌∷◌, ◌++◌, find, Option, Some, None, slice_index, bytes_eq, inl, inr, refl, sym, ap, ◌∙◌, subst}
+-- What the version machine answers to credentials.
+use Rattle.std.proofs.Common.{◌≡◌, ℕ, Bool, true, false, not, ◌&&◌, List, [], ◌∷◌, ◌++◌, find, Option, Some, None, slice_index, bytes_eq, refl, sym, ap, ◌∙◌, unwrap_or}
+use Rattle.std.specs.Option.{is_none}
 use Rattle.std.specs.Cmp.Lexicographic.{bytes_decides}
-use Rattle.std.proofs.lemmas.Bool.{false≢true}
-use Rattle.httparse.specs.Grammar.{RequestHead}
+use Rattle.std.proofs.lemmas.Option.{none-some}
 use Rattle.sha2.specs.Sha256.{sha256}
 use Rattle.b2_base.specs.declared.settings.Settings.{Settings}
+use Rattle.rule_table.specs.declared.fault.FaultKind.{FaultKind}
 use Rattle.rule_table.specs.declared.fault.FaultKind.TheVariants as kind
-use Rattle.b2_model.specs.declared.refusal.Refusal.{Refusal}
-use Rattle.b2_model.specs.declared.refusal.Refusal.TheVariants.{BadHead, NoCall, BadMethod, BadLength, P1, P2}
 use Rattle.b2_model.specs.declared.shown.AnswerOf.{AnswerOf}
+use Rattle.b2_model.specs.declared.shown.AnswerOf.TheVariants as shown
 use Rattle.b2_model.specs.Checks.{plain, check, first_fault, some_and}
 use Rattle.b2_model.specs.LiveGrant.{is_before_end}
 use Rattle.b2_model.specs.Denial.{name_rule, caller_of}
@@ -16,12 +16,7 @@ use Rattle.b2_model.specs.Plan.{or_absent}
 use Rattle.b2_model.specs.AskKeys.{authorized}
 use Rattle.b2_model.specs.Changes.{master}
 use Rattle.b2_model.specs.Ask.{judged}
-use Rattle.std.specs.Option.{is_none}
-use Rattle.b2_model.specs.Head.{IsHead}
-use Rattle.b2_model.specs.Rules.{GivesPair, Keeps, KeepsAll, BreaksFirst, rules, IsAdmitted, IsRefused}
-use Rattle.b2_model.specs.Answer.{opened, token_text, machine_answer, token_in, fault_in, HasCredentials, MachineGives, MachineRefuses, IsMachines}
-
--- ---- what the machine answers
+use Rattle.b2_model.specs.Answer.{opened, token_text, machine_answer, token_in, fault_in, MachineGives, MachineRefuses}
 
 -- the answer, where the master key's test comes out so
 abbrev answer_if : Settings → ℕ → List ℕ → Bool → AnswerOf (List ℕ)
@@ -30,81 +25,52 @@ answer_if settings t words found =
     let key = find (λ k. found) (master settings ∷ []) in
     let p = or_absent kind.P2 (authorized M t words) key in
     (judged M t words p (first_fault (
-      (check kind.P1 false ∷ check kind.P2 (is_none key) ∷ check kind.P6 (some_and (λ k. not (is_before_end t k.end)) key) ∷ [])
-      ++ [] ++ p.exists ++ name_rule None (caller_of M None) ++ p.own))).answer
+    (check kind.P1 false ∷ check kind.P2 (is_none key) ∷ check kind.P6 (some_and (λ k. not (is_before_end t k.end)) key) ∷ [])
+    ++ [] ++ p.exists ++ name_rule None (caller_of M None) ++ p.own))).answer
+
+abbrev tested : Settings → List ℕ → List ℕ → Bool
+tested settings user secret = bytes_eq settings.account user && bytes_eq (sha256 secret) settings.secret_hash
 
 both_true : (a b : Bool) → a ≡ true → b ≡ true → (a && b) ≡ true
 both_true a b is_a is_b = rw (is_a, is_b) refl
 
-gives_token : (settings : Settings) (t : ℕ) (words secret : List ℕ) → sha256 secret ≡ settings.secret_hash
-    → token_in (machine_answer settings t words (Some (settings.account, secret))) ≡ Some (token_text 1 1 (slice_index words 0) (slice_index words 1))
-gives_token settings t words secret hash =
+not_both : (a b : Bool) → (a ≡ true → b ≡ true → ⊥) → (a && b) ≡ false
+not_both true true wrong = absurd (wrong refl refl)
+not_both true false wrong = refl
+not_both false b wrong = refl
+
+-- ---- the master key's credentials
+
+pub master_gives : (settings : Settings) (words user secret : List ℕ) → user ≡ settings.account → sha256 secret ≡ settings.secret_hash
+    → MachineGives settings words (Some (user, secret)) (token_text 1 1 (slice_index words 0) (slice_index words 1))
+master_gives settings words user secret own hash t =
     ap (λ found. token_in (answer_if settings t words found))
-      (both_true (bytes_eq settings.account settings.account) (bytes_eq (sha256 secret) settings.secret_hash) ((bytes_decides settings.account settings.account).1 refl) ((bytes_decides (sha256 secret) settings.secret_hash).1 hash))
+    (both_true (bytes_eq settings.account user) (bytes_eq (sha256 secret) settings.secret_hash) ((bytes_decides settings.account user).1 (sym own)) ((bytes_decides (sha256 secret) settings.secret_hash).1 hash))
 
-refuses_pair : (settings : Settings) (t : ℕ) (words user secret : List ℕ) (own hash : Bool) → bytes_eq settings.account user ≡ own → bytes_eq (sha256 secret) settings.secret_hash ≡ hash
-    → ((settings.account ≡ user) → (sha256 secret ≡ settings.secret_hash) → ⊥) → fault_in (machine_answer settings t words (Some (user, secret))) ≡ Some (plain kind.P2)
-refuses_pair settings t words user secret true true is_own is_hash wrong =
-    absurd (wrong ((bytes_decides settings.account user).0 is_own) ((bytes_decides (sha256 secret) settings.secret_hash).0 is_hash))
-refuses_pair settings t words user secret false hash is_own is_hash wrong = rw is_own refl
-refuses_pair settings t words user secret true false is_own is_hash wrong = rw (is_own, is_hash) refl
+-- ---- others
 
--- ---- admitted
+pub other_refused : (settings : Settings) (words user secret : List ℕ) → ((user ≡ settings.account) × (sha256 secret ≡ settings.secret_hash) → ⊥)
+    → MachineRefuses settings words (Some (user, secret)) kind.P2
+other_refused settings words user secret wrong t =
+    ap (λ found. fault_in (answer_if settings t words found))
+    (not_both (bytes_eq settings.account user) (bytes_eq (sha256 secret) settings.secret_hash)
+    (λ own hash. wrong (sym ((bytes_decides settings.account user).0 own), (bytes_decides (sha256 secret) settings.secret_hash).0 hash)))
 
-pub admitted_gives : (settings : Settings) (words bytes : List ℕ) → IsAdmitted settings bytes → MachineGives settings words bytes (token_text 1 1 (slice_index words 0) (slice_index words 1))
-admitted_gives settings words bytes (h, is, (path, (method, (length, (pair, ((secret, gives, hash), none)))))) = (
-  h,
-  is,
-  (settings.account, secret),
-  gives,
-  λ t. gives_token settings t words secret hash,
-)
+pub none_refused : (settings : Settings) (words : List ℕ) → MachineRefuses settings words None kind.P1
+none_refused settings words t = refl
 
--- ---- refused
+-- ---- one answer
 
-broken : (settings : Settings) (h : RequestHead) (list : List Refusal) (refusal : Refusal) → BreaksFirst settings h list refusal → Keeps settings h refusal → ⊥
-broken settings h [] refusal breaks keeps = breaks
-broken settings h (rule ∷ list) refusal (inl here) keeps = here.1 (subst (Keeps settings h) here.0 keeps)
-broken settings h (rule ∷ list) refusal (inr later) keeps = broken settings h list refusal later.1 keeps
+token_not_fault : (a : AnswerOf (List ℕ)) (token : List ℕ) (kind : FaultKind) → token_in a ≡ Some token → fault_in a ≡ Some (plain kind) → ⊥
+token_not_fault (shown.Refused fault) token kind gives refuses = none-some token gives
+token_not_fault (shown.Account account) token kind gives refuses = none-some (plain kind) refuses
+token_not_fault other token kind gives refuses = none-some token gives
 
-abbrev is_second : Refusal → Bool
-is_second BadHead = false
-is_second NoCall = false
-is_second BadMethod = false
-is_second BadLength = false
-is_second P1 = false
-is_second P2 = true
+pub not_both_ways : (settings : Settings) (words token : List ℕ) (kind : FaultKind) (credentials : Option (List ℕ × List ℕ)) → MachineGives settings words credentials token → MachineRefuses settings words credentials kind → ⊥
+not_both_ways settings words token kind credentials gives refuses = token_not_fault (machine_answer settings 0 words credentials) token kind (gives 0) (refuses 0)
 
--- whoever breaks the second rule of the policy keeps the first
-credentials_of : (settings : Settings) (h : RequestHead) → BreaksFirst settings h rules P2 → Keeps settings h P1
-credentials_of settings h (inl here) = absurd (false≢true (sym (ap is_second here.0)))
-credentials_of settings h (inr (path, inl here)) = absurd (false≢true (sym (ap is_second here.0)))
-credentials_of settings h (inr (path, inr (method, inl here))) = absurd (false≢true (sym (ap is_second here.0)))
-credentials_of settings h (inr (path, inr (method, inr (length, inl here)))) = absurd (false≢true (sym (ap is_second here.0)))
-credentials_of settings h (inr (path, inr (method, inr (length, inr (keeps, rest))))) = keeps
+pub one_token : (settings : Settings) (words a b : List ℕ) (credentials : Option (List ℕ × List ℕ)) → MachineGives settings words credentials a → MachineGives settings words credentials b → a ≡ b
+one_token settings words a b credentials first second = ap (λ o. unwrap_or o a) (sym (first 0) ∙ second 0)
 
-refused_first : (settings : Settings) (words bytes : List ℕ) (h : RequestHead) → IsHead bytes h → BreaksFirst settings h rules P1 → MachineRefuses settings words bytes kind.P1
-refused_first settings words bytes h is breaks = (h, is, None, (λ user secret gives. broken settings h rules P1 breaks (user, secret, gives)), λ t. refl)
-
-refused_second : (settings : Settings) (words bytes : List ℕ) (h : RequestHead) → IsHead bytes h → BreaksFirst settings h rules P2 → Keeps settings h P1 → MachineRefuses settings words bytes kind.P2
-refused_second settings words bytes h is breaks (user, secret, gives) = (
-  h,
-  is,
-  Some (user, secret),
-  gives,
-  λ t. refuses_pair settings t words user secret (bytes_eq settings.account user) (bytes_eq (sha256 secret) settings.secret_hash) refl refl
-    (λ own hash. broken settings h rules P2 breaks (secret, subst (λ u. GivesPair h u secret) (sym own) gives, hash)),
-)
-
-no_head : (settings : Settings) (words bytes : List ℕ) (refusal : Refusal) → refusal ≡ BadHead → IsMachines settings words bytes refusal
-no_head settings words bytes refusal is = rw is tt
-
-pub refused_so : (settings : Settings) (words bytes : List ℕ) (refusal : Refusal) → IsRefused settings bytes refusal → IsMachines settings words bytes refusal
-refused_so settings words bytes BadHead refused = tt
-refused_so settings words bytes NoCall refused = tt
-refused_so settings words bytes BadMethod refused = tt
-refused_so settings words bytes BadLength refused = tt
-refused_so settings words bytes P1 (inl none) = no_head settings words bytes P1 none.0
-refused_so settings words bytes P1 (inr (h, is, breaks)) = refused_first settings words bytes h is breaks
-refused_so settings words bytes P2 (inl none) = no_head settings words bytes P2 none.0
-refused_so settings words bytes P2 (inr (h, is, breaks)) = refused_second settings words bytes h is breaks (credentials_of settings h breaks)
+pub one_denial : (settings : Settings) (words : List ℕ) (a b : FaultKind) (credentials : Option (List ℕ × List ℕ)) → MachineRefuses settings words credentials a → MachineRefuses settings words credentials b → a ≡ b
+one_denial settings words a b credentials first second = ap (λ o. (unwrap_or o (plain a)).kind) (sym (first 0) ∙ second 0)

@@ -1,8 +1,6 @@
 -- Lists under a map.
-use Rattle.std.proofs.Common.{◌≡◌, ℕ, ◌+◌, ◌<◌, Bool, true, false, not, List, [], ◌∷◌, ◌++◌, Option, Some, None, map, filter, find, option_map, take, drop, length, sum_by, nat_lt, nat_le, if◌then◌else◌, refl, sym, ap, ◌∙◌}
-use Rattle.std.specs.List.{list_any, list_all}
-use Rattle.std.proofs.lemmas.List.{length-map, map-append}
-use Rattle.std.proofs.lemmas.List.Sums.{sum_by-cons}
+use Rattle.std.proofs.Common.{◌≡◌, ℕ, Bool, true, false, List, [], ◌∷◌, Some, map, filter, find, option_map, drop, nat_lt, nat_le, if◌then◌else◌, refl, ap, ◌∙◌}
+use Rattle.std.specs.List.{list_any}
 use Rattle.std.specs.List.{take-map, drop-map}
 use Rattle.b2_model.specs.Pages.{Page, first_of, put_by, by_number, page_of, page_from}
 

@@ -1,22 +1,17 @@
 -- The answer to an authorize request, and its body (the B2 Native API v3, b2_authorize_account).
-use Rattle.std.specs.Prelude.{◌≡◌, ⊤, ℕ, List, [], ◌∷◌, ◌++◌, Option, Some, None, map, fold, codes, length, slice_index}
+use Rattle.std.specs.Prelude.{◌≡◌, ◌⊎◌, ℕ, List, [], ◌∷◌, ◌++◌, Option, Some, None, map, fold, codes, length}
 use Rattle.serde_json.specs.View.{items_of}
 use Rattle.serde_json.specs.Data.{Data, null, string, number, unsigned, array, object, Items, no_members, put}
 use Rattle.b2_base.specs.Digits.{eight_digits, sixteen_digits}
 use Rattle.b2_base.specs.declared.settings.Settings.{Settings}
 use Rattle.rule_table.specs.Cap.{cap_names}
-use Rattle.b2_model.specs.Refusal.{status_of, code_of, message_of}
-use Rattle.b2_model.specs.Head.{IsHead}
-use Rattle.b2_model.specs.Rules.{GivesPair, IsAdmitted, IsRefused}
-use Rattle.b2_model.specs.declared.refusal.Refusal.{Refusal}
-use Rattle.httparse.specs.Grammar.{RequestHead}
+use Rattle.b2_model.specs.FaultTable.{fault_entry}
+use Rattle.b2_model.specs.Rules.{IsBadForm, Asks}
 use Rattle.rule_table.specs.declared.fault.FaultKind.{FaultKind}
-use Rattle.rule_table.specs.declared.fault.FaultKind.TheVariants as kind
 use Rattle.b2_model.specs.declared.fault.Fault.{Fault}
 use Rattle.b2_model.specs.declared.call.Call.TheVariants as call
 use Rattle.b2_model.specs.declared.shown.AnswerOf.{AnswerOf}
 use Rattle.b2_model.specs.declared.shown.AnswerOf.TheVariants as shown
-use Rattle.b2_model.specs.declared.refusal.Refusal.TheVariants as refusal
 use Rattle.b2_model.specs.Checks.{plain}
 use Rattle.b2_model.specs.State.{State}
 use Rattle.b2_model.specs.Changes.{begun}
@@ -47,37 +42,20 @@ abbrev pub fault_in : AnswerOf (List ℕ) → Option Fault
 fault_in (shown.Refused fault) = Some fault
 fault_in other = None
 
--- the id and the secret that the head's first Authorization field gives, or none
-abbrev pub HasCredentials : RequestHead → Option (List ℕ × List ℕ) → Type 0
-HasCredentials h None = (user secret : List ℕ) → GivesPair h user secret → ⊥
-HasCredentials h (Some pair) = GivesPair h pair.0 pair.1
+-- the version machine gives this token for these credentials, at every moment
+abbrev pub MachineGives : Settings → List ℕ → Option (List ℕ × List ℕ) → List ℕ → Type 0
+MachineGives settings words credentials token = (t : ℕ) → token_in (machine_answer settings t words credentials) ≡ Some token
 
--- the version machine gives this token for the request, at every moment
-abbrev pub MachineGives : Settings → List ℕ → List ℕ → List ℕ → Type 0
-MachineGives settings words head token =
-    (h : RequestHead) × IsHead head h × (pair : List ℕ × List ℕ) × HasCredentials h (Some pair) × ((t : ℕ) → token_in (machine_answer settings t words (Some pair)) ≡ Some token)
+-- the version machine refuses these credentials so, at every moment
+abbrev pub MachineRefuses : Settings → List ℕ → Option (List ℕ × List ℕ) → FaultKind → Type 0
+MachineRefuses settings words credentials kind = (t : ℕ) → fault_in (machine_answer settings t words credentials) ≡ Some (plain kind)
 
--- the version machine refuses the request so, at every moment
-abbrev pub MachineRefuses : Settings → List ℕ → List ℕ → FaultKind → Type 0
-MachineRefuses settings words head kind =
-    (h : RequestHead) × IsHead head h × (credentials : Option (List ℕ × List ℕ)) × HasCredentials h credentials
-    × ((t : ℕ) → fault_in (machine_answer settings t words credentials) ≡ Some (plain kind))
-
--- A refusal that names a rule of the policy is the machine's; the others are of the request's form.
-abbrev pub IsMachines : Settings → List ℕ → List ℕ → Refusal → Type 0
-IsMachines settings words head refusal.BadHead = ⊤
-IsMachines settings words head refusal.NoCall = ⊤
-IsMachines settings words head refusal.BadMethod = ⊤
-IsMachines settings words head refusal.BadLength = ⊤
-IsMachines settings words head refusal.P1 = MachineRefuses settings words head kind.P1
-IsMachines settings words head refusal.P2 = MachineRefuses settings words head kind.P2
-
--- The answer of a store that was opened once and has given no token yet; it is the version machine's.
--- Behind the words that are given come zeros.
+-- The answer of a store that was opened once and has given no token yet: a refusal of the request's form,
+-- or what the version machine answers. Behind the words that are given come zeros.
 abbrev pub IsAnswer : Settings → List ℕ → List ℕ → Answer → Type 0
-IsAnswer settings words head (Account token) =
-    IsAdmitted settings head × (token ≡ token_text 1 1 (slice_index words 0) (slice_index words 1)) × MachineGives settings words head token
-IsAnswer settings words head (Refused refusal) = IsRefused settings head refusal × IsMachines settings words head refusal
+IsAnswer settings words bytes (Account token) = (credentials : Option (List ℕ × List ℕ)) × Asks bytes credentials × MachineGives settings words credentials token
+IsAnswer settings words bytes (Refused refusal) =
+    IsBadForm bytes refusal ⊎ ((credentials : Option (List ℕ × List ℕ)) × Asks bytes credentials × MachineRefuses settings words credentials refusal)
 
 -- the texts as a list of JSON
 abbrev pub texts : List (List ℕ) → Items
@@ -106,11 +84,11 @@ account_data settings token = fields (
     ∷ (codes "applicationKeyExpirationTimestamp", null)
     ∷ (codes "authorizationToken", string token) ∷ [])
 
-abbrev pub refusal_data : Refusal → Data
-refusal_data refusal = fields (
-    (codes "code", string (code_of refusal))
-    ∷ (codes "message", string (message_of refusal))
-    ∷ (codes "status", number (unsigned (status_of refusal))) ∷ [])
+abbrev pub refusal_data : FaultKind → Data
+refusal_data kind = fields (
+    (codes "code", string (fault_entry kind).code)
+    ∷ (codes "message", string (fault_entry kind).text)
+    ∷ (codes "status", number (unsigned (fault_entry kind).status)) ∷ [])
 
 -- what the body of the reply to an answer says
 abbrev pub body_data : Settings → Answer → Data

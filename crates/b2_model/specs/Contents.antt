@@ -1,5 +1,5 @@
 -- The machine under a change of what stands for a piece of content, such as from bytes to extents.
-use Rattle.std.specs.Prelude.{ℕ, List, Option, Some, None, map, option_map}
+use Rattle.std.specs.Prelude.{map, option_map}
 use Rattle.b2_model.specs.declared.version.PartOf.{PartOf}
 use Rattle.b2_model.specs.declared.version.VersionOf.{VersionOf}
 use Rattle.b2_model.specs.declared.record.ChangeOf.{ChangeOf}

@@ -1,31 +1,29 @@
 -- The reply to an answer (RFC 9112, sections 4 to 6), and how it is shown.
-use Rattle.std.specs.Prelude.{ℕ, List, [], ◌∷◌, ◌++◌, length, codes, decimal}
+use Rattle.std.specs.Prelude.{ℕ, ◌==◌, if◌then◌else◌, List, [], ◌∷◌, ◌++◌, length, codes, decimal}
 use Rattle.serde_json.specs.Written.{compact_text}
 use Rattle.b2_base.specs.declared.settings.Settings.{Settings}
-use Rattle.b2_model.specs.Refusal.{status_of}
+use Rattle.b2_model.specs.FaultTable.{fault_entry}
 use Rattle.b2_model.specs.Answer.{body_data}
 use Rattle.b2_model.specs.declared.answer.Answer.{Answer}
 use Rattle.b2_model.specs.declared.answer.Answer.TheVariants.{Account, Refused}
-use Rattle.b2_model.specs.declared.refusal.Refusal.{Refusal}
-use Rattle.b2_model.specs.declared.refusal.Refusal.TheVariants.{BadHead, NoCall, BadMethod, BadLength, P1, P2}
 
 -- the status line's number
-abbrev pub answer_status : Answer → ℕ
-answer_status (Account token) = 200
-answer_status (Refused refusal) = status_of refusal
+abbrev pub reply_status : Answer → ℕ
+reply_status (Account token) = 200
+reply_status (Refused kind) = (fault_entry kind).status
 
--- and its reason
-abbrev pub refusal_reason : Refusal → List ℕ
-refusal_reason BadHead = codes "Bad Request"
-refusal_reason NoCall = codes "Not Found"
-refusal_reason BadMethod = codes "Method Not Allowed"
-refusal_reason BadLength = codes "Bad Request"
-refusal_reason P1 = codes "Unauthorized"
-refusal_reason P2 = codes "Unauthorized"
-
-abbrev pub answer_reason : Answer → List ℕ
-answer_reason (Account token) = codes "OK"
-answer_reason (Refused refusal) = refusal_reason refusal
+-- and its reason (RFC 9110, section 15)
+abbrev pub reason_of : ℕ → List ℕ
+reason_of status =
+    if status == 200 then codes "OK"
+    else (if status == 400 then codes "Bad Request"
+    else (if status == 401 then codes "Unauthorized"
+    else (if status == 403 then codes "Forbidden"
+    else (if status == 404 then codes "Not Found"
+    else (if status == 405 then codes "Method Not Allowed"
+    else (if status == 409 then codes "Conflict"
+    else (if status == 416 then codes "Range Not Satisfiable"
+    else codes "Service Unavailable")))))))
 
 abbrev pub line_end : List ℕ
 line_end = 13 ∷ 10 ∷ []
@@ -45,7 +43,7 @@ body_text settings answer = compact_text (body_data settings answer)
 
 abbrev pub reply_of : Settings → Answer → List ℕ
 reply_of settings answer =
-    reply_head (answer_status answer) (answer_reason answer) (length (body_text settings answer)) ++ body_text settings answer
+    reply_head (reply_status answer) (reason_of (reply_status answer)) (length (body_text settings answer)) ++ body_text settings answer
 
 -- what is shown of a connection on which one reply was sent whole, in one piece, and which was then closed
 abbrev pub output_of : ℕ → List ℕ → List ℕ

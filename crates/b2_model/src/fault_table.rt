@@ -66,8 +66,8 @@ pub fn code_of(kind: FaultKind) -> &'static str
     }
 }
 
-// The text that the reply's body gives, for people.
-fn text_of(kind: FaultKind) -> &'static str
+/// The text that the reply's body gives, for people, without what the fault carries.
+pub fn text_of(kind: FaultKind) -> &'static str
     ensures { result.now ≡ (fault_entry kind).text }
 {
     match kind {

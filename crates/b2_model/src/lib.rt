@@ -12,7 +12,6 @@ mod kinds;
 mod laws;
 mod need_table;
 mod record;
-mod refusal;
 mod shown;
 mod upload;
 mod version;
@@ -27,7 +26,7 @@ pub use call::{
 };
 pub use denial::Denial;
 pub use fault::{BadCall, Fault, Target};
-pub use fault_table::{code_of, message_of, rule_of, status_of};
+pub use fault_table::{code_of, message_of, rule_of, status_of, text_of};
 pub use key::{Flight, Grant, Key};
 pub use kinds::{Action, Mark, Mode, Period, Retention, TokenKind};
 pub use laws::{
@@ -35,7 +34,6 @@ pub use laws::{
 };
 pub use need_table::{Need, Thing, need_of};
 pub use record::{ChangeOf, NewVersion, Numbers, Record, RecordOf, VersionId};
-pub use refusal::Refusal;
 pub use shown::{
     AnswerOf, ContentOf, RowKind, ShownAccount, ShownBucket, ShownDigest, ShownFile, ShownKey,
     ShownLock, ShownName, ShownPart,

@@ -31,6 +31,6 @@ pub fn answer(
             Ok(Answer::Account(token))
         }
         Err(Or::Memory) => Err(Memory),
-        Err(Or::Fault(refusal)) => Ok(Answer::Refused(refusal)),
+        Err(Or::Fault(kind)) => Ok(Answer::Refused(kind)),
     }
 }

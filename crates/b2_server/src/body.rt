@@ -7,18 +7,19 @@ ghost use Rattle.b2_model.specs.Reply.{body_text};
 
 use crate::account::{account_value, put_number, put_text};
 use b2_base::{Memory, Settings, Text};
-use b2_model::{Answer, Refusal};
+use b2_model::{Answer, code_of, status_of, text_of};
 use json_shape::render;
+use rule_table::FaultKind;
 use serde_json::{Map, Value};
 use std::alloc::Global;
 
-fn refusal_value(alloc: Global, refusal: Refusal) -> Result<Value, Memory>
-    ensures { IfOk result (λ v. view v ≡ refusal_data refusal) }
+fn refusal_value(alloc: Global, kind: FaultKind) -> Result<Value, Memory>
+    ensures { IfOk result (λ v. view v ≡ refusal_data kind) }
 {
     let mut map = Map::new(alloc);
-    put_text(&mut map, alloc, "code", refusal.code())?;
-    put_text(&mut map, alloc, "message", refusal.message())?;
-    put_number(&mut map, alloc, "status", u64::from(refusal.status()))?;
+    put_text(&mut map, alloc, "code", code_of(kind))?;
+    put_text(&mut map, alloc, "message", text_of(kind))?;
+    put_number(&mut map, alloc, "status", u64::from(status_of(kind)))?;
     Ok(Value::Object(map))
 }
 
@@ -27,7 +28,7 @@ fn body_value(alloc: Global, settings: &Settings, answer: &Answer) -> Result<Val
 {
     match answer {
         Answer::Account(token) => account_value(alloc, settings, token),
-        Answer::Refused(refusal) => refusal_value(alloc, *refusal),
+        Answer::Refused(kind) => refusal_value(alloc, *kind),
     }
 }
 

@@ -3,12 +3,11 @@
 ghost use Rattle.std.specs.Prelude.{◌≡◌, ◌↔◌, IsTrue, IfOk, MatchOption, OnOk, option_map, codes};
 ghost use Rattle.b2_base.specs.Failure.{IfFault};
 ghost use Rattle.sha2.specs.Sha256.{sha256};
-ghost use Rattle.b2_server.specs.Judge.{GivesNone, GivesThe};
-ghost use Rattle.b2_model.specs.Rules.{IsAdmitted, IsRefused};
+ghost use Rattle.b2_server.specs.Judge.{GivesNone, GivesThe, IsMaster, IsRefused};
 
 use b2_base::{Memory, Or, Settings, Text};
-use b2_model::Refusal;
 use http_edge::{basic, read_head};
+use rule_table::FaultKind;
 use sha2::{Digest, Sha256};
 use std::alloc::Global;
 
@@ -25,30 +24,30 @@ fn is_get(method: &[u8]) -> bool
     method == b"GET".as_slice()
 }
 
-/// Admits the request whose head these bytes are, or names the first rule that it breaks.
-pub fn judge(alloc: Global, settings: &Settings, bytes: &[u8]) -> Result<(), Or<Refusal>>
-    ensures admitted { OnOk result (IsAdmitted settings.now bytes.now) }
+/// Admits the request whose head these bytes are, or names what it is refused for.
+pub fn judge(alloc: Global, settings: &Settings, bytes: &[u8]) -> Result<(), Or<FaultKind>>
+    ensures admitted { OnOk result (IsMaster settings.now bytes.now) }
     ensures refused { IfFault result (IsRefused settings.now bytes.now) }
 {
     let Some(head) = read_head(bytes) else {
-        return Err(Or::Fault(Refusal::BadHead));
+        return Err(Or::Fault(FaultKind::BadHead));
     };
     if !is_authorize(head.path) {
-        return Err(Or::Fault(Refusal::NoCall));
+        return Err(Or::Fault(FaultKind::NoCall));
     }
     if !is_get(head.method) {
-        return Err(Or::Fault(Refusal::BadMethod));
+        return Err(Or::Fault(FaultKind::BadMethod));
     }
     if head.has_length {
-        return Err(Or::Fault(Refusal::BadLength));
+        return Err(Or::Fault(FaultKind::BadLength));
     }
     let Some((user, secret)) = pair(alloc, head.authorization)? else {
-        return Err(Or::Fault(Refusal::P1));
+        return Err(Or::Fault(FaultKind::P1));
     };
     if is_master(settings, &user, &secret) {
         Ok(())
     } else {
-        Err(Or::Fault(Refusal::P2))
+        Err(Or::Fault(FaultKind::P2))
     }
 }
 
