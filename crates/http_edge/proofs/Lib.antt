@@ -1,2 +1,4 @@
 pub mod Pairs
 pub mod Fields
+pub mod Ends
+pub mod Fronts

@@ -2,9 +2,14 @@
 #![tactic(auto)]
 
 mod credentials;
+mod cut;
 mod head;
 mod reply;
 
 pub use credentials::basic;
+pub use cut::{Cut, MOST_HEAD, cut_as_it_comes, cut_head};
 pub use head::{Head, read_head};
 pub use reply::reply_head;
+
+#[cfg(test)]
+mod tests;
