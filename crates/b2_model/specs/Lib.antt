@@ -26,6 +26,8 @@ pub mod AskLarge
 pub mod AskListings
 pub mod AskDownloads
 pub mod Ask
+pub mod UploadPolicy
+pub mod Body
 pub mod UploadSteps
 pub mod Run
 pub mod LifecycleRules

@@ -1,21 +1,15 @@
 -- An upload begins at the end of its head, and ends with its last byte or is lost with its connection (the
 -- B2 reference, b2_upload_file and b2_upload_part). What an upload needs is judged when it begins, and
 -- again when it ends.
-use Rattle.std.specs.Prelude.{ℕ, Bool, true, false, not, ◌&&◌, ◌==◌, ◌-◌, List, [], ◌∷◌, ◌++◌, Option, Some, None, filter, find, length, take, drop, bytes_eq, unwrap_or, Result, Ok, Err}
+use Rattle.std.specs.Prelude.{ℕ, Bool, true, false, not, ◌==◌, List, [], ◌∷◌, ◌++◌, Option, Some, None, filter, find, bytes_eq, unwrap_or}
 use Rattle.std.specs.Option.{is_none}
 use Rattle.std.specs.List.{list_any}
-use Rattle.hex.specs.Hex.{decode_sized}
-use Rattle.sha1.specs.Sha1.{sha1}
 use Rattle.rule_table.specs.declared.fault.FaultKind.TheVariants.{NoBucket, NoFile, Busy, BadDigest}
 use Rattle.b2_model.specs.declared.kinds.Action.TheVariants as action
 use Rattle.b2_model.specs.declared.kinds.Mark.{Mark}
 use Rattle.b2_model.specs.declared.kinds.Mark.TheVariants as mark
-use Rattle.b2_model.specs.declared.kinds.TokenKind.TheVariants as token
 use Rattle.b2_model.specs.declared.fault.Fault.{Fault}
-use Rattle.b2_model.specs.declared.fault.Target.{Target}
-use Rattle.b2_model.specs.declared.fault.Target.TheVariants as target
 use Rattle.b2_model.specs.declared.bucket.Bucket.{Bucket}
-use Rattle.b2_model.specs.declared.key.Grant.{Grant}
 use Rattle.b2_model.specs.declared.key.Flight.{Flight}
 use Rattle.b2_model.specs.declared.version.VersionOf.{VersionOf}
 use Rattle.b2_model.specs.declared.upload.DigestRule.{DigestRule}
@@ -29,38 +23,15 @@ use Rattle.b2_model.specs.declared.shown.AnswerOf.TheVariants as answer
 use Rattle.b2_model.specs.Checks.{Check, check, first_fault}
 use Rattle.b2_model.specs.State.{State, bucket_at}
 use Rattle.b2_model.specs.Rows.{version_at}
-use Rattle.b2_model.specs.Need.{need, upload_caps}
-use Rattle.b2_model.specs.Naming.{numbered, name_at}
-use Rattle.b2_model.specs.Denial.{Caller, caller_of, token_rules, call_rules, name_rule}
+use Rattle.b2_model.specs.Denial.{Caller, caller_of}
 use Rattle.b2_model.specs.Locks.{own_or_default}
 use Rattle.b2_model.specs.Changes.{made}
 use Rattle.b2_model.specs.Shown.{shown_file, shown_part}
 use Rattle.b2_model.specs.Plan.{Plan, writes, on_bucket, on_file, id_of, no_version, lock_off, bad_until}
 use Rattle.b2_model.specs.AskLarge.{not_large}
 use Rattle.b2_model.specs.Ask.{Outcome, bad, judged, moved}
-
--- the token that an upload gives
-abbrev pub upload_token : UploadCall → Option (List ℕ)
-upload_token (upload.File u) = u.token
-upload_token (upload.Part u) = u.token
-upload_token (upload.Bad b) = b.token
-
--- the grant is one for the path
-abbrev pub fits : Target → Grant → Bool
-fits target.Nothing g = true
-fits (target.Bucket bucket) g = g.bucket == bucket
-fits (target.File bucket file) g = g.bucket == bucket && g.file == file
-
--- ---- the policy
-
-abbrev pub upload_policy : {C : Type 0} → State C → ℕ → Caller → UploadCall → List Check → List Check
-upload_policy M t who (upload.File u) exists =
-    token_rules t (token.UploadUrl ∷ []) (fits (target.Bucket u.bucket)) who ++ call_rules M (upload_caps (upload.File u)) None (numbered u.bucket) who
-    ++ exists ++ name_rule (Some u.name) who
-upload_policy M t who (upload.Part u) exists =
-    token_rules t (token.PartUrl ∷ []) (fits (target.File u.bucket u.file)) who ++ call_rules M (upload_caps (upload.Part u)) None (numbered u.bucket) who
-    ++ exists ++ name_rule (name_at M (Some (u.bucket, u.file))) who
-upload_policy M t who (upload.Bad b) exists = token_rules t (need b.name).tokens (fits b.target) who
+pub use Rattle.b2_model.specs.UploadPolicy.{upload_token, fits, upload_policy}
+pub use Rattle.b2_model.specs.Body.{Body, is_told, agrees, digest_rule, told_by, body_by, body_of}
 
 -- ---- begin
 
@@ -108,22 +79,6 @@ begin M t conn u = begun_as M t conn u (first_fault (begin_refusals M t u))
 
 -- ---- end
 
--- a body that came whole: its content, the content's SHA-1, and the digest that its last 40 bytes give
-pub record Body (C : Type 0) : Type 0 where
-  pub content : C
-  pub digest : List ℕ
-  pub told : Option (List ℕ)
-
-abbrev pub is_told : Option (List ℕ) → List ℕ → Bool
-is_told None digest = false
-is_told (Some told) digest = bytes_eq told digest
-
--- the digest is the one that the rule asks for
-abbrev pub agrees : {C : Type 0} → DigestRule → Body C → Bool
-agrees (rule.Given digest) body = bytes_eq digest body.digest
-agrees rule.AtEnd body = is_told body.told body.digest
-agrees rule.NotVerified body = true
-
 abbrev pub mark_of : DigestRule → Mark
 mark_of (rule.Given digest) = mark.Verified
 mark_of rule.AtEnd = mark.Verified
@@ -166,25 +121,3 @@ ended size M t body u words =
 -- The flight is gone, and what its upload needs is judged again.
 abbrev pub end : {C : Type 0} → (C → ℕ) → State C → ℕ → Flight → Body C → List ℕ → Outcome C
 end size M t f body words = ended size (lost M t f.conn) t body f.upload words
-
--- ---- bodies that are lists of bytes
-
-abbrev pub digest_rule : UploadCall → DigestRule
-digest_rule (upload.File u) = u.digest
-digest_rule (upload.Part u) = u.digest
-digest_rule (upload.Bad b) = rule.NotVerified
-
-abbrev pub told_by : {E : Type 0} → Result (List ℕ) E → Option (List ℕ)
-told_by (Ok digest) = Some digest
-told_by (Err e) = None
-
--- the content, and what its last 40 bytes tell where the digest stands there
-abbrev pub body_by : DigestRule → List ℕ → Body (List ℕ)
-body_by rule.AtEnd bytes =
-    let content = take (length bytes - 40) bytes in
-    record { content = content; digest = sha1 content; told = told_by (decode_sized (drop (length bytes - 40) bytes) 20) }
-body_by (rule.Given digest) bytes = record { content = bytes; digest = sha1 bytes; told = None }
-body_by rule.NotVerified bytes = record { content = bytes; digest = sha1 bytes; told = None }
-
-abbrev pub body_of : UploadCall → List ℕ → Body (List ℕ)
-body_of u bytes = body_by (digest_rule u) bytes
