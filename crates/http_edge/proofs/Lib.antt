@@ -2,3 +2,4 @@ pub mod Pairs
 pub mod Fields
 pub mod Ends
 pub mod Fronts
+pub mod Routes

@@ -1,3 +1,4 @@
 pub mod Head
 pub mod Basic
 pub mod Cut
+pub mod Route

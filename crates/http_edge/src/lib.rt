@@ -5,11 +5,13 @@ mod credentials;
 mod cut;
 mod head;
 mod reply;
+mod route;
 
 pub use credentials::basic;
 pub use cut::{Cut, MOST_HEAD, cut_as_it_comes, cut_head};
 pub use head::{Head, read_head};
 pub use reply::reply_head;
+pub use route::{Route, route_of};
 
 #[cfg(test)]
 mod tests;

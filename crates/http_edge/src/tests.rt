@@ -1,6 +1,9 @@
 //! Heads and where they end.
 
-use crate::{Cut, MOST_HEAD, cut_head};
+use crate::route::named_by;
+use crate::{Cut, MOST_HEAD, cut_head, route_of};
+use b2_model::Target;
+use rule_table::{CallName, FaultKind};
 use std::alloc::Global;
 use std::test::Fail;
 
@@ -49,5 +52,87 @@ fn longest_head(rt: HostRuntime) -> Result<(), Fail> {
     assert_eq!(rt; cut_head(&head), Cut::TooLong);
     let head = long_head(rt.alloc(), MOST_HEAD - 3)?;
     assert_eq!(rt; cut_head(&head), Cut::Head(MOST_HEAD - 1));
+    Ok(())
+}
+
+// The name of the call of the path and the numbers that it names, 0 where it names none.
+fn shown(path: &str) -> Option<(CallName, u32, u64)> {
+    let Some(route) = named_by(path.as_bytes()) else {
+        return None;
+    };
+    match route.target {
+        Target::Nothing => Some((route.name, 0, 0)),
+        Target::Bucket(bucket) => Some((route.name, bucket.get(), 0)),
+        Target::File(bucket, file) => Some((route.name, bucket.get(), file.get())),
+    }
+}
+
+#[test]
+fn paths(rt: HostRuntime) -> Result<(), Fail> {
+    for path in [
+        "",
+        "/",
+        "/x",
+        "/b2api/v3/",
+        "/b2api/v2/b2_create_bucket",
+        "/b2api/v3/b2_create_bucket/",
+        "/b2api/v3/b2_upload_file",
+        "/b2api/v3/b2_upload_file/",
+        "/b2api/v3/b2_upload_file/00000000000000000000001",
+        "/b2api/v3/b2_upload_file/00000000000000000000000A",
+        "/b2api/v3/b2_upload_file/100000000000000000000001",
+        "/b2api/v3/b2_upload_part/4_z00000001_f0020000000000000",
+        "/b2api/v3/b2_download_file_by_name",
+        "/file/b",
+        "/files/b/n",
+    ] {
+        assert!(rt; named_by(path.as_bytes()).is_none(), "{path}");
+    }
+    for (path, row) in [
+        ("/b2api/v3/b2_create_bucket", (CallName::CreateBucket, 0, 0)),
+        (
+            "/b2api/v3/b2_download_file_by_id",
+            (CallName::DownloadFileById, 0, 0),
+        ),
+        (
+            "/b2api/v3/b2_upload_file/000000000000000000000001",
+            (CallName::UploadFile, 1, 0),
+        ),
+        (
+            "/b2api/v3/b2_upload_file/000000000000000000000000",
+            (CallName::UploadFile, 0, 0),
+        ),
+        (
+            "/b2api/v3/b2_upload_part/4_z00000001_f001fffffffffffff",
+            (CallName::UploadPart, 1, 9_007_199_254_740_991),
+        ),
+        ("/file/b/", (CallName::DownloadFileByName, 0, 0)),
+        ("/file//n", (CallName::DownloadFileByName, 0, 0)),
+        ("/file/b/d/n", (CallName::DownloadFileByName, 0, 0)),
+    ] {
+        assert_eq!(rt; shown(path), Some(row), "{path}");
+    }
+    Ok(())
+}
+
+#[test]
+fn methods(rt: HostRuntime) -> Result<(), Fail> {
+    let authorize = b"/b2api/v3/b2_authorize_account";
+    for method in ["GET", "POST"] {
+        assert!(rt; route_of(method.as_bytes(), authorize).is_ok(), "{method}");
+    }
+    for method in ["PUT", "HEAD", "get", ""] {
+        assert_eq!(rt;
+            route_of(method.as_bytes(), authorize).err(),
+            Some(FaultKind::BadMethod),
+            "{method}"
+        );
+    }
+    // A call that is not served is none yet, whatever its method.
+    assert_eq!(rt;
+        route_of(b"PUT", b"/b2api/v3/b2_create_bucket").err(),
+        Some(FaultKind::NoCall)
+    );
+    assert_eq!(rt; route_of(b"POST", b"/x").err(), Some(FaultKind::NoCall));
     Ok(())
 }
