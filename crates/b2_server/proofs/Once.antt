@@ -9,7 +9,7 @@ use Rattle.b2_model.specs.Head.{IsHead}
 use Rattle.b2_model.specs.Basic.{IsBasic}
 use Rattle.b2_model.specs.Rules.{GivesPair, KeepsAll, BreaksFirst, rules, IsBadForm, HasCredentials, Asks}
 use Rattle.b2_model.proofs.FirstPath.{one_token, one_denial, not_both_ways}
-use Rattle.http_edge.proofs.Pairs.{one_pair}
+use Rattle.api_json.proofs.Pairs.{one_pair}
 use Rattle.b2_model.specs.Answer.{IsAnswer, MachineGives, MachineRefuses}
 use Rattle.b2_model.specs.Reply.{reply_of, output_of}
 use Rattle.b2_model.specs.declared.answer.Answer.{Answer}

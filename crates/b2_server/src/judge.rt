@@ -5,8 +5,9 @@ ghost use Rattle.b2_base.specs.Failure.{IfFault};
 ghost use Rattle.sha2.specs.Sha256.{sha256};
 ghost use Rattle.b2_server.specs.Judge.{GivesNone, GivesThe, IsMaster, IsRefused};
 
+use api_json::basic;
 use b2_base::{Memory, Or, Settings, Text};
-use http_edge::{basic, read_head};
+use http_edge::read_head;
 use rule_table::FaultKind;
 use sha2::{Digest, Sha256};
 use std::alloc::Global;

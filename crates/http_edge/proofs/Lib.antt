@@ -1,4 +1,4 @@
-pub mod Pairs
+pub mod Bools
 pub mod Fields
 pub mod Ends
 pub mod Fronts

@@ -1,4 +1,3 @@
 pub mod Head
-pub mod Basic
 pub mod Cut
 pub mod Route

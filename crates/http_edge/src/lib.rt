@@ -1,13 +1,11 @@
 //! The edge at which bytes become a request, and an answer becomes bytes.
 #![tactic(auto)]
 
-mod credentials;
 mod cut;
 mod head;
 mod reply;
 mod route;
 
-pub use credentials::basic;
 pub use cut::{Cut, MOST_HEAD, cut_as_it_comes, cut_head};
 pub use head::{Head, read_head};
 pub use reply::reply_head;

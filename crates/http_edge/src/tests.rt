@@ -2,7 +2,6 @@
 
 use crate::route::named_by;
 use crate::{Cut, MOST_HEAD, cut_head, route_of};
-use b2_model::Target;
 use rule_table::{CallName, FaultKind};
 use std::alloc::Global;
 use std::test::Fail;
@@ -55,15 +54,19 @@ fn longest_head(rt: HostRuntime) -> Result<(), Fail> {
     Ok(())
 }
 
-// The name of the call of the path and the numbers that it names, 0 where it names none.
-fn shown(path: &str) -> Option<(CallName, u32, u64)> {
-    let Some(route) = named_by(path.as_bytes()) else {
-        return None;
-    };
-    match route.target {
-        Target::Nothing => Some((route.name, 0, 0)),
-        Target::Bucket(bucket) => Some((route.name, bucket.get(), 0)),
-        Target::File(bucket, file) => Some((route.name, bucket.get(), file.get())),
+// The name of the call of the path.
+fn name_of(path: &str) -> Option<CallName> {
+    match named_by(path.as_bytes()) {
+        Some(route) => Some(route.name),
+        None => None,
+    }
+}
+
+// What a request with this method and path is refused for.
+fn fault_of(method: &str, path: &str) -> Option<FaultKind> {
+    match route_of(method.as_bytes(), path.as_bytes()) {
+        Ok(_) => None,
+        Err(kind) => Some(kind),
     }
 }
 
@@ -71,7 +74,6 @@ fn shown(path: &str) -> Option<(CallName, u32, u64)> {
 fn paths(rt: HostRuntime) -> Result<(), Fail> {
     for path in [
         "",
-        "/",
         "/x",
         "/b2api/v3/",
         "/b2api/v2/b2_create_bucket",
@@ -86,53 +88,53 @@ fn paths(rt: HostRuntime) -> Result<(), Fail> {
         "/file/b",
         "/files/b/n",
     ] {
-        assert!(rt; named_by(path.as_bytes()).is_none(), "{path}");
+        assert_eq!(rt; name_of(path), None, "{path}");
     }
-    for (path, row) in [
-        ("/b2api/v3/b2_create_bucket", (CallName::CreateBucket, 0, 0)),
+    for (path, name) in [
+        ("/b2api/v3/b2_create_bucket", CallName::CreateBucket),
         (
             "/b2api/v3/b2_download_file_by_id",
-            (CallName::DownloadFileById, 0, 0),
+            CallName::DownloadFileById,
         ),
         (
             "/b2api/v3/b2_upload_file/000000000000000000000001",
-            (CallName::UploadFile, 1, 0),
+            CallName::UploadFile,
         ),
         (
             "/b2api/v3/b2_upload_file/000000000000000000000000",
-            (CallName::UploadFile, 0, 0),
+            CallName::UploadFile,
         ),
         (
             "/b2api/v3/b2_upload_part/4_z00000001_f001fffffffffffff",
-            (CallName::UploadPart, 1, 9_007_199_254_740_991),
+            CallName::UploadPart,
         ),
-        ("/file/b/", (CallName::DownloadFileByName, 0, 0)),
-        ("/file//n", (CallName::DownloadFileByName, 0, 0)),
-        ("/file/b/d/n", (CallName::DownloadFileByName, 0, 0)),
+        ("/file/b/", CallName::DownloadFileByName),
+        ("/file//n", CallName::DownloadFileByName),
+        ("/file/b/d/n", CallName::DownloadFileByName),
     ] {
-        assert_eq!(rt; shown(path), Some(row), "{path}");
+        assert_eq!(rt; name_of(path), Some(name), "{path}");
     }
     Ok(())
 }
 
 #[test]
 fn methods(rt: HostRuntime) -> Result<(), Fail> {
-    let authorize = b"/b2api/v3/b2_authorize_account";
+    let authorize = "/b2api/v3/b2_authorize_account";
     for method in ["GET", "POST"] {
-        assert!(rt; route_of(method.as_bytes(), authorize).is_ok(), "{method}");
+        assert_eq!(rt; fault_of(method, authorize), None, "{method}");
     }
     for method in ["PUT", "HEAD", "get", ""] {
         assert_eq!(rt;
-            route_of(method.as_bytes(), authorize).err(),
+            fault_of(method, authorize),
             Some(FaultKind::BadMethod),
             "{method}"
         );
     }
     // A call that is not served is none yet, whatever its method.
     assert_eq!(rt;
-        route_of(b"PUT", b"/b2api/v3/b2_create_bucket").err(),
+        fault_of("PUT", "/b2api/v3/b2_create_bucket"),
         Some(FaultKind::NoCall)
     );
-    assert_eq!(rt; route_of(b"POST", b"/x").err(), Some(FaultKind::NoCall));
+    assert_eq!(rt; fault_of("POST", "/x"), Some(FaultKind::NoCall));
     Ok(())
 }

@@ -2,7 +2,7 @@ use Rattle.std.proofs.Common.{◌∙◌, sym, ap, take, length, arith}
 use Rattle.std.specs.Bool.{◌==◌}
 use Rattle.std.proofs.lemmas.List.{take_all}
 use Rattle.std.proofs.lemmas.List.Sums.{position_or_len_is}
-use Rattle.http_edge.proofs.Pairs.{is_false}
+use Rattle.http_edge.proofs.Bools.{is_false}
 use Rattle.http_edge.proofs.head.path_in.Goals as goal
 
 pub returns-in-Some : goal.returns-in-Some

@@ -2,7 +2,7 @@
 
 ghost use Rattle.std.specs.Prelude.{◌≡◌, ℕ, List, IfOk, IfSome, MatchOption};
 ghost use Rattle.b2_model.specs.Basic.{IsBasic};
-ghost use Rattle.http_edge.specs.Basic.{IsPair};
+ghost use Rattle.api_json.specs.Basic.{IsPair};
 
 use b2_base::{Memory, Text};
 use base64::DecodeAllocError;

@@ -1,7 +1,7 @@
 use Rattle.std.proofs.Common.{arith}
 use Rattle.std.proofs.lemmas.Str.Pattern.{split_parts}
-use Rattle.http_edge.proofs.Pairs.{pair_along}
-use Rattle.http_edge.proofs.credentials.split_pair.Goals as goal
+use Rattle.api_json.proofs.Pairs.{pair_along}
+use Rattle.api_json.proofs.credentials.split_pair.Goals as goal
 
 pub returns : goal.returns
 returns c =

@@ -1,5 +1,5 @@
 -- A text is cut at its first colon one way, and a value of Basic credentials gives one pair.
-use Rattle.std.proofs.Common.{◌≡◌, ◌≢◌, ℕ, suc, ◌<◌, List, [], ◌∷◌, ◌++◌, length, get_or, Bool, true, false, Option, Some, None, MatchOption, sym, ap, ◌∙◌, refl, subst, arith, Bor, codes, drop, Ok}
+use Rattle.std.proofs.Common.{◌≡◌, ◌≢◌, ℕ, suc, ◌<◌, List, [], ◌∷◌, ◌++◌, length, get_or, Option, Some, None, MatchOption, sym, ap, ◌∙◌, refl, subst, arith, Bor, codes, drop, Ok}
 use Rattle.std.specs.Result.{result_unwrap_or}
 use Rattle.b2_base.proofs.Cuts.{cut_once}
 use Rattle.base64.proofs.EngineFacts.{decode_of-encode_of}
@@ -9,7 +9,7 @@ use Rattle.std.proofs.lemmas.List.Elements.{All-from_get_or}
 use Rattle.base64.specs.Engines.{standard}
 use Rattle.base64.specs.GeneralPurpose.{encode_of, decode_of, IsBytes}
 use Rattle.b2_model.specs.Basic.{IsBasic}
-use Rattle.http_edge.specs.Basic.{IsPair}
+use Rattle.api_json.specs.Basic.{IsPair}
 
 has_byte : (b : ℕ) (xs ys : List ℕ) → ((i : ℕ) → i < length (xs ++ b ∷ ys) → get_or (xs ++ b ∷ ys) i 0 ≢ b) → ⊥
 has_byte b [] ys clean = clean 0 (omega arith) refl
@@ -20,10 +20,6 @@ pub pair_of : (bytes : List ℕ) (r : Option (Bor (List ℕ) × Bor (List ℕ)))
     → IsUtf8 bytes → MatchOption r ((user secret : List ℕ) → IsPair bytes user secret → ⊥) (λ p. IsPair bytes p.0.now p.1.now)
 pair_of bytes None clean text = λ user secret pair. has_byte 58 user secret (λ i within. subst (λ xs. get_or xs i 0 ≢ 58) pair.joined (clean i (subst (λ xs. i < length xs) (sym pair.joined) within)))
 pair_of bytes (Some p) parts text = record { joined = parts.0; text = text; first_colon = All-from_get_or (λ b. b ≢ 58) p.0.now 0 parts.1 }
-
-pub is_false : (t : Bool) → (t ≡ true → ⊥) → t ≡ false
-is_false true no_way = absurd (no_way refl)
-is_false false no_way = refl
 
 pub pair_along : (text bytes : List ℕ) → text ≡ bytes → (r : Option (Bor (List ℕ) × Bor (List ℕ)))
     → MatchOption r ((i : ℕ) → i < length text → get_or text i 0 ≢ 58) (λ x. (text ≡ x.0.now ++ 58 ∷ x.1.now) × ((i : ℕ) → i < length x.0.now → get_or x.0.now i 0 ≢ 58))

@@ -1,9 +1,9 @@
 use Rattle.std.proofs.Common.{codes, Some, List, ℕ, subst, rules}
 use Rattle.std.proofs.lemmas.Bool.Decides.{Decides-eqb}
 use Rattle.std.proofs.lemmas.Slice.Eq.{strip_prefix_is}
-use Rattle.http_edge.specs.Basic.{IsPair}
-use Rattle.http_edge.proofs.Pairs.{basic_of, one_pair}
-use Rattle.http_edge.proofs.credentials.basic.Goals as goal
+use Rattle.api_json.specs.Basic.{IsPair}
+use Rattle.api_json.proofs.Pairs.{basic_of, one_pair}
+use Rattle.api_json.proofs.credentials.basic.Goals as goal
 
 pub returns-clause-pair : goal.returns-clause-pair
 returns-clause-pair c =
