@@ -1,6 +1,7 @@
 -- What each call needs and names: the kinds of tokens, the capabilities, and what is judged against a
 -- key's bucket and prefix (the B2 reference, "Application keys").
-use Rattle.std.specs.Prelude.{Bool, List, [], ◌∷◌, ◌++◌, if◌then◌else◌}
+use Rattle.std.specs.List.{list_any}
+use Rattle.std.specs.Prelude.{⊤, ◌==◌, ℕ, Bool, List, [], ◌∷◌, ◌++◌, if◌then◌else◌}
 use Rattle.std.specs.Option.{is_some}
 use Rattle.rule_table.specs.declared.cap.Cap.{Cap}
 use Rattle.rule_table.specs.declared.cap.Cap.TheVariants as cap
@@ -104,3 +105,25 @@ upload_caps (upload.Bad u) = []
 
 abbrev pub needed_caps : Call → List Cap
 needed_caps c = (need (name_of c)).caps ++ more_caps c
+
+-- ---- the column of what is named
+
+abbrev pub thing_place : Thing → ℕ
+thing_place thing.Account = 0
+thing_place thing.Bucket = 1
+thing_place thing.SomeBucket = 2
+thing_place thing.PathBucket = 3
+thing_place thing.File = 4
+thing_place thing.Name = 5
+thing_place thing.Prefix = 6
+
+-- the call's row has this thing
+abbrev pub names : Thing → Call → Bool
+names t c = list_any (λ u. thing_place u == thing_place t) (need (name_of c)).things
+
+-- a call that is asked: no upload, and nothing amiss
+abbrev pub IsAsked : Call → Type 0
+IsAsked (call.UploadFile u) = ⊥
+IsAsked (call.UploadPart u) = ⊥
+IsAsked (call.Bad c) = ⊥
+IsAsked other = ⊤

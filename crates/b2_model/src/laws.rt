@@ -1,11 +1,15 @@
 //! Laws of the machine over every state.
 
-ghost use Rattle.std.specs.Prelude.{◌≡◌, ℕ, ◌≤◌, List, Some, map};
+ghost use Rattle.std.specs.Prelude.{◌≡◌, ◌||◌, ℕ, ◌≤◌, List, Some, map};
 ghost use Rattle.b2_model.specs.declared.fault.Fault.{Fault as TheFault};
 ghost use Rattle.b2_model.specs.declared.key.Flight.{Flight as TheFlight};
 ghost use Rattle.b2_model.specs.declared.call.Call.{Call as TheCall};
 ghost use Rattle.b2_model.specs.declared.upload.UploadCall.{UploadCall as TheUpload};
 ghost use Rattle.b2_model.specs.declared.shown.AnswerOf.TheVariants.{Refused};
+ghost use Rattle.std.specs.Option.{is_some};
+ghost use Rattle.b2_model.specs.declared.need_table.Thing.TheVariants.{Account, File, Name, Prefix};
+ghost use Rattle.b2_model.specs.Need.{names, IsAsked};
+ghost use Rattle.b2_model.specs.Naming.{account_of, file_of, text_of};
 ghost use Rattle.b2_model.specs.Checks.{Check, first_fault, IsFirstFailing};
 ghost use Rattle.b2_model.specs.State.{State};
 ghost use Rattle.b2_model.specs.Ask.{ask, moved, refusals_of};
@@ -50,4 +54,13 @@ pub fn same_for_all_contents<C, D>()
         → ask size (state_by f M) t words c ≡ outcome_by f (ask length M t words c) }
     ensures run { (f : C → D) (size : D → ℕ) (length : C → ℕ) → ((c : C) → size (f c) ≡ length c) → (M : State C) (words : List ℕ) (steps : List (Step C))
         → run size (state_by f M) words (map (step_by f) steps) ≡ progress_by f (run length M words steps) }
+{}
+
+/// What the row of a call says that it names is what the policy reads from its fields: an account, a file,
+/// and a name or a prefix.
+#[tactic(auto, using(crate::proofs::Needs::names_account, crate::proofs::Needs::names_file, crate::proofs::Needs::names_text))]
+pub fn rows_and_fields()
+    ensures account { (c : TheCall) → IsAsked c → names Account c ≡ is_some (account_of c) }
+    ensures file { (c : TheCall) → IsAsked c → names File c ≡ is_some (file_of c) }
+    ensures text { (c : TheCall) → IsAsked c → (names Name c || names Prefix c) ≡ is_some (text_of c) }
 {}

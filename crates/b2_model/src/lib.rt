@@ -30,7 +30,8 @@ pub use fault_table::{code_of, message_of, rule_of, status_of, text_of};
 pub use key::{Flight, Grant, Key};
 pub use kinds::{Action, Mark, Mode, Period, Retention, TokenKind};
 pub use laws::{
-    first_failing_rule, moment_never_falls, refused_begin, refused_call, same_for_all_contents,
+    first_failing_rule, moment_never_falls, refused_begin, refused_call, rows_and_fields,
+    same_for_all_contents,
 };
 pub use need_table::{Need, Thing, need_of};
 pub use record::{ChangeOf, NewVersion, Numbers, Record, RecordOf, VersionId};
