@@ -1,11 +1,9 @@
 -- Where an empty line ends.
-use Rattle.std.proofs.Common.{◌≡◌, ℕ, ◌+◌, ◌<◌, ◌≤◌, ◌⊎◌, inl, inr, List, length, slice_index, Bool, true, false, ◌&&◌, ◌||◌, IsTrue, ◌↔◌, refl, sym, ap, ◌∙◌, subst, arith}
-use Rattle.std.proofs.lemmas.Bool.{cases_lt, false≢true}
-use Rattle.http_edge.specs.Cut.{IsEmptyLine, HasBegun, IsEnd, IsOther, EndsLine}
-
--- another byte stands before the place
-abbrev pub HasOther : List ℕ → ℕ → Type 0
-HasOther bytes at = (i : ℕ) × (i < at) × IsOther (slice_index bytes i)
+use Rattle.std.proofs.Common.{◌≡◌, ◌≢◌, ℕ, ◌+◌, ◌<◌, ◌≤◌, ◌⊎◌, inl, inr, List, length, take, drop, ◌-◌, slice_index, refl, ap, ◌∙◌, subst, arith}
+use Rattle.std.proofs.lemmas.List.{get_or-take, get_or-drop, length-take-le, length-drop}
+use Rattle.memchr.specs.Find.{Nowhere, Passes, is_byte}
+use Rattle.std.proofs.lemmas.Bool.{cases_lt}
+use Rattle.http_edge.specs.Cut.{IsEmptyLine, HasBegun, IsEnd, IsOther, EndsLine, HasOther}
 
 not_at : (bytes : List ℕ) (i j byte : ℕ) → i ≡ j → slice_index bytes j ≡ byte → slice_index bytes i ≡ byte
 not_at bytes i j byte same is = ap (slice_index bytes) same ∙ is
@@ -48,32 +46,44 @@ ends_within bytes start end (inr three) = let last = three.3.0 in omega (arith, 
 
 -- ---- the search
 
-pub both_true : (a b : Bool) → (a && b) ≡ true → (a ≡ true) × (b ≡ true)
-both_true true b is = (refl, is)
-both_true false b is = absurd (false≢true is)
+-- no line feed stands from one place up to another
+abbrev pub NoLine : List ℕ → ℕ → ℕ → Type 0
+NoLine bytes at place = (i : ℕ) → at ≤ i → i < place → slice_index bytes i ≢ 10
 
-pub not_both : (a b : Bool) → (a && b) ≡ false → a ≡ true → b ≡ true → ⊥
-not_both a b is is_a is_b = false≢true (sym is ∙ rw (is_a, is_b) refl)
+line_ends : (bytes : List ℕ) (at place start end : ℕ) → NoLine bytes at place → end ≤ place → at < end → IsEmptyLine bytes start end → ⊥
+line_ends bytes at place start end none most more (inl two) = none (start + 1) (omega (arith, two.0, more)) (omega (arith, two.0, most)) two.2.1
+line_ends bytes at place start end none most more (inr three) = none (start + 2) (omega (arith, three.0, more)) (omega (arith, three.0, most)) three.3.1
 
-begun_found : (bytes : List ℕ) (at : ℕ) (begun other : Bool) → (IsTrue begun → HasOther bytes at) → (IsTrue other → IsOther (slice_index bytes at)) → IsTrue (begun || other) → HasOther bytes (at + 1)
-begun_found bytes at true other has is found = let h = has refl in (h.0, omega (arith, h.1), h.2)
-begun_found bytes at false true has is found = (at, omega arith, is refl)
-begun_found bytes at false false has is found = absurd (false≢true found)
+up_to : (bytes : List ℕ) (at place end : ℕ) → ((end : ℕ) → end ≤ at → IsEnd bytes end → ⊥) → NoLine bytes at place → end ≤ place → (at < end) ⊎ (end ≤ at) → IsEnd bytes end → ⊥
+up_to bytes at place end before none most (inl more) (start, line, begun) = line_ends bytes at place start end none most more line
+up_to bytes at place end before none most (inr less) is = before end less is
 
-or_left : (a b : Bool) → a ≡ true → (a || b) ≡ true
-or_left a b is = rw is refl
+-- no empty line ends up to the next line feed
+pub none_up_to : (bytes : List ℕ) (at place end : ℕ) → ((end : ℕ) → end ≤ at → IsEnd bytes end → ⊥) → NoLine bytes at place → end ≤ place → IsEnd bytes end → ⊥
+none_up_to bytes at place end before none most = up_to bytes at place end before none most (cases_lt at end)
 
-or_right : (a b : Bool) → b ≡ true → (a || b) ≡ true
-or_right true b is = refl
-or_right false b is = is
+-- none ends before the head begins
+pub none_in_front : (bytes : List ℕ) (begin end : ℕ) → ((i : ℕ) → i + 1 < begin → IsOther (slice_index bytes i) → ⊥) → end ≤ begin → IsEnd bytes end → ⊥
+none_in_front bytes begin end before most (start, line, (i, below, within, not_cr, not_lf)) =
+    let line_from = starts_before bytes start end line in before i (omega (arith, below, line_from, most)) (not_cr, not_lf)
 
-begun_told : (bytes : List ℕ) (at i : ℕ) (begun other : Bool) → (HasOther bytes at → IsTrue begun) → (IsOther (slice_index bytes at) → IsTrue other) → i < at + 1 → IsOther (slice_index bytes i)
-    → (i < at) ⊎ (at ≤ i) → IsTrue (begun || other)
-begun_told bytes at i begun other told is below here (inl before) = or_left begun other (told (i, before, here))
-begun_told bytes at i begun other told is below here (inr from) = or_right begun other (is (subst (λ j. IsOther (slice_index bytes j)) (omega (arith, below, from)) here))
+pub other_further : (bytes : List ℕ) (at place : ℕ) → at ≤ place → HasOther bytes at → HasOther bytes place
+other_further bytes at place more (i, below, other) = (i, omega (arith, below, more), other)
 
-pub begun_more : (bytes : List ℕ) (at : ℕ) (begun other : Bool) → IsTrue begun ↔ HasOther bytes at → IsTrue other ↔ IsOther (slice_index bytes at) → IsTrue (begun || other) ↔ HasOther bytes (at + 1)
-begun_more bytes at begun other has is = (
-  begun_found bytes at begun other has.0 is.0,
-  λ (i, below, here). begun_told bytes at i begun other has.1 is.1 below here (cases_lt i at),
-)
+-- what stands in a window of the bytes
+in_window : (bytes : List ℕ) (at limit i : ℕ) → at ≤ i → i < limit → slice_index (take (limit - at) (drop at bytes)) (i - at) ≡ slice_index bytes i
+in_window bytes at limit i from below =
+    get_or-take (limit - at) (drop at bytes) (i - at) 0 (omega (arith, from, below)) ∙ get_or-drop at bytes (i - at) 0 ∙ ap (slice_index bytes) (omega (arith, from))
+
+pub no_line_within : (bytes : List ℕ) (at limit n : ℕ) → Nowhere (Passes (is_byte 10) (take (limit - at) (drop at bytes))) 0 n → at + n ≤ limit → NoLine bytes at (at + n)
+no_line_within bytes at limit n none most i from below is =
+    none (i - at) (omega arith) (omega (arith, from, below)) (rw (in_window bytes at limit i from (omega (arith, below, most)) ∙ is) refl)
+
+pub width : (bytes : List ℕ) (at limit : ℕ) → at ≤ limit → limit ≤ length bytes → length (take (limit - at) (drop at bytes)) ≡ limit - at
+width bytes at limit low high =
+    let rest = length-drop at bytes in length-take-le (limit - at) (drop at bytes) (omega (arith, rest, low, high))
+
+pub no_line_at_all : (bytes : List ℕ) (at limit : ℕ) → at ≤ limit → limit ≤ length bytes → Nowhere (Passes (is_byte 10) (take (limit - at) (drop at bytes))) 0 (length (take (limit - at) (drop at bytes))) → NoLine bytes at limit
+no_line_at_all bytes at limit low high none =
+    let wide = width bytes at limit low high in
+    λ i from below. no_line_within bytes at limit (limit - at) (λ k from_zero k_below. none k from_zero (omega (arith, k_below, wide))) (omega (arith, low)) i from (omega (arith, low, below))

@@ -44,3 +44,7 @@ IsOther byte = (byte ≡ 13 → ⊥) × (byte ≡ 10 → ⊥)
 -- an empty line ends behind the byte at this place
 abbrev pub EndsLine : List ℕ → ℕ → Type 0
 EndsLine bytes at = (start : ℕ) × IsEmptyLine bytes start (at + 1)
+
+-- another byte stands before the place
+abbrev pub HasOther : List ℕ → ℕ → Type 0
+HasOther bytes at = (i : ℕ) × (i < at) × IsOther (slice_index bytes i)

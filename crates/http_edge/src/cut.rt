@@ -1,8 +1,10 @@
 //! Where the head of a request ends.
 
-ghost use Rattle.std.specs.Prelude.{◌↔◌, ◌<◌, ◌≤◌, ℕ, List, take, IsTrue, length};
+ghost use Rattle.std.specs.Prelude.{◌≢◌, ◌↔◌, ◌+◌, ◌<◌, ◌≤◌, ℕ, List, take, IsTrue, length, slice_index};
 ghost use Rattle.http_edge.specs.declared.cut.Cut.TheVariants.{Head, NotYet};
-ghost use Rattle.http_edge.specs.Cut.{IsCut, EndsLine, IsOther};
+ghost use Rattle.http_edge.specs.Cut.{IsCut, EndsLine, IsOther, HasOther};
+
+use memchr::memchr;
 
 /// What the bytes that came so far are cut to.
 #[derive(Clone, Copy, Debug, PartialEq, Eq)]
@@ -41,20 +43,45 @@ fn is_other(byte: u8) -> bool
     (byte != b'\r') & (byte != b'\n')
 }
 
+// Behind the first byte that is neither CR nor LF, or the limit where none stands before it.
+fn begin_of(bytes: &[u8], limit: usize) -> usize
+    requires { limit ≤ length bytes.now }
+    ensures within { result ≤ limit }
+    ensures begun { result < limit → HasOther bytes.now result }
+    ensures before { (i : ℕ) → i + 1 < result → IsOther (slice_index bytes.now i) → ⊥ }
+{
+    'front: for at in 0..limit {
+        if is_other(bytes[at]) {
+            return at + 1;
+        }
+    }
+    limit
+}
+
+// The first line feed from a place on, or the limit where none stands before it.
+fn line_from(bytes: &[u8], at: usize, limit: usize) -> usize
+    requires { (at ≤ limit) × (limit ≤ length bytes.now) }
+    ensures within { (at ≤ result) × (result ≤ limit) }
+    ensures before { (i : ℕ) → at ≤ i → i < result → slice_index bytes.now i ≢ 10 }
+{
+    match memchr(b'\n', &bytes[at..limit]) {
+        Some(further) => at + further,
+        None => limit,
+    }
+}
+
 /// Cuts the head off the bytes of a connection (RFC 9112, section 2.2).
 pub fn cut_head(bytes: &[u8]) -> Cut
     ensures { IsCut bytes.now result }
 {
     let limit = bytes.len().min(MOST_HEAD);
-    let mut at = 0;
-    let mut begun = false;
-    'bytes: while at < limit {
-        let ends = begun & ends_line(bytes, at);
-        if ends {
+    let begin = begin_of(bytes, limit);
+    let mut at = line_from(bytes, begin, limit);
+    'lines: while at < limit {
+        if ends_line(bytes, at) {
             return Cut::Head(at + 1);
         }
-        begun |= is_other(bytes[at]);
-        at += 1;
+        at = line_from(bytes, at + 1, limit);
     }
     if bytes.len() < MOST_HEAD {
         Cut::NotYet
