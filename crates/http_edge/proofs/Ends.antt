@@ -1,8 +1,8 @@
 -- Where an empty line ends.
-use Rattle.std.proofs.Common.{◌≡◌, ◌≢◌, ℕ, ◌+◌, ◌<◌, ◌≤◌, ◌⊎◌, inl, inr, List, length, take, drop, ◌-◌, slice_index, refl, ap, ◌∙◌, subst, arith}
+use Rattle.std.proofs.Common.{◌≡◌, ◌≢◌, ℕ, ◌+◌, ◌<◌, ◌≤◌, ◌⊎◌, inl, inr, List, length, take, drop, ◌-◌, slice_index, refl, sym, ap, ◌∙◌, subst, arith}
 use Rattle.std.proofs.lemmas.List.{get_or-take, get_or-drop, length-take-le, length-drop}
 use Rattle.memchr.specs.Find.{Nowhere, Passes, is_byte}
-use Rattle.std.proofs.lemmas.Bool.{cases_lt}
+use Rattle.std.proofs.lemmas.Bool.{cases_lt, eqb-true}
 use Rattle.http_edge.specs.Cut.{IsEmptyLine, HasBegun, IsEnd, IsOther, EndsLine, HasOther}
 
 not_at : (bytes : List ℕ) (i j byte : ℕ) → i ≡ j → slice_index bytes j ≡ byte → slice_index bytes i ≡ byte
@@ -87,3 +87,9 @@ pub no_line_at_all : (bytes : List ℕ) (at limit : ℕ) → at ≤ limit → li
 no_line_at_all bytes at limit low high none =
     let wide = width bytes at limit low high in
     λ i from below. no_line_within bytes at limit (limit - at) (λ k from_zero k_below. none k from_zero (omega (arith, k_below, wide))) (omega (arith, low)) i from (omega (arith, low, below))
+
+pub line_at : (bytes : List ℕ) (at limit n : ℕ) → Passes (is_byte 10) (take (limit - at) (drop at bytes)) n → at + n < limit → slice_index bytes (at + n) ≡ 10
+line_at bytes at limit n is below =
+    let moved : slice_index (take (limit - at) (drop at bytes)) n ≡ slice_index bytes (at + n) =
+    get_or-take (limit - at) (drop at bytes) n 0 (omega (arith, below)) ∙ get_or-drop at bytes n 0 in
+    sym moved ∙ eqb-true (slice_index (take (limit - at) (drop at bytes)) n) 10 is

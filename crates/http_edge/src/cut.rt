@@ -1,6 +1,6 @@
 //! Where the head of a request ends.
 
-ghost use Rattle.std.specs.Prelude.{◌≢◌, ◌↔◌, ◌+◌, ◌<◌, ◌≤◌, ℕ, List, take, IsTrue, length, slice_index};
+ghost use Rattle.std.specs.Prelude.{◌≡◌, ◌≢◌, ◌↔◌, ◌+◌, ◌<◌, ◌≤◌, ℕ, List, take, IsTrue, length, slice_index};
 ghost use Rattle.http_edge.specs.declared.cut.Cut.TheVariants.{Head, NotYet};
 ghost use Rattle.http_edge.specs.Cut.{IsCut, EndsLine, IsOther, HasOther};
 
@@ -63,6 +63,7 @@ fn line_from(bytes: &[u8], at: usize, limit: usize) -> usize
     requires { (at ≤ limit) × (limit ≤ length bytes.now) }
     ensures within { (at ≤ result) × (result ≤ limit) }
     ensures before { (i : ℕ) → at ≤ i → i < result → slice_index bytes.now i ≢ 10 }
+    ensures here { result < limit → slice_index bytes.now result ≡ 10 }
 {
     match memchr(b'\n', &bytes[at..limit]) {
         Some(further) => at + further,

@@ -1,5 +1,5 @@
 use Rattle.std.proofs.Common.{arith}
-use Rattle.http_edge.proofs.Ends.{no_line_within, no_line_at_all, width}
+use Rattle.http_edge.proofs.Ends.{no_line_within, no_line_at_all, width, line_at}
 use Rattle.http_edge.proofs.cut.line_from.Goals as goal
 
 pub returns-in-Some-clause-before : goal.returns-in-Some-clause-before
@@ -10,3 +10,6 @@ returns-in-Some-clause-before c =
 
 pub returns-in-None-clause-before : goal.returns-in-None-clause-before
 returns-in-None-clause-before c = no_line_at_all c.args.bytes.now c.args.at c.args.limit c.requires.0 c.requires.1 c.in-None.ensures
+
+pub returns-in-Some-clause-here : goal.returns-in-Some-clause-here
+returns-in-Some-clause-here c = line_at c.args.bytes.now c.args.at c.args.limit c.in-Some.further c.in-Some.ensures.1
