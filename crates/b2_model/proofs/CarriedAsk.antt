@@ -24,14 +24,15 @@ use Rattle.b2_model.specs.Current.{current}
 use Rattle.b2_model.specs.Naming.{Place, nowhere, numbered, several, filtered, by_name, is_outside, place_of, account_of, file_of, text_of, bucket_named, given_token}
 use Rattle.b2_model.specs.Need.{needed_caps}
 use Rattle.b2_model.specs.Denial.{key_by, limits, Caller, caller_of, call_rules}
-use Rattle.b2_model.specs.Pages.{row_name, row_num, Row, file, folder, Page, names_page, versions_page, unfinished_page, parts_page}
+use Rattle.b2_model.specs.declared.record.VersionId.{VersionId}
+use Rattle.b2_model.specs.Pages.{row_name, Row, file, folder, Page, names_page, versions_page, unfinished_page, parts_page}
 use Rattle.b2_model.specs.Shown.{shown_file, shown_row, shown_part}
 use Rattle.b2_model.specs.declared.shown.AnswerOf.TheVariants as answer
 use Rattle.b2_base.specs.declared.settings.Settings.{Settings}
 use Rattle.b2_model.specs.AskLarge.{not_large, at_finish}
 use Rattle.b2_model.specs.declared.kinds.Retention.{Retention}
 use Rattle.b2_model.specs.declared.record.ChangeOf.TheVariants as change
-use Rattle.b2_model.specs.AskListings.{listing_of}
+use Rattle.b2_model.specs.AskListings.{listing_of, row_id}
 use Rattle.b2_model.specs.Finish.{ordered, gap_from, differs, small, finish_rules, finished}
 use Rattle.b2_model.specs.Plan.{Plan, shows, writes, id_of, or_absent, on_bucket, on_file}
 use Rattle.b2_model.specs.AskDownloads.{content, or_refused}
@@ -79,17 +80,17 @@ module _ {C D : Type 0} (f : C → D) where
   name-by (Some (file v)) = refl
   name-by (Some (folder name)) = refl
 
-  abbrev both : {E : Type 0} → Row E → List ℕ × ℕ
-  both r = (row_name r, row_num r)
+  abbrev both : {E : Type 0} → Row E → List ℕ × Option VersionId
+  both r = (row_name r, row_id r)
 
   both-by : (o : Option (Row C)) → option_map both (option_map (row_by f) o) ≡ option_map both o
   both-by None = refl
   both-by (Some (file v)) = refl
   both-by (Some (folder name)) = refl
 
-  num-by : (o : Option (VersionOf C)) → option_map (λ v. v.num) (option_map (version_by f) o) ≡ option_map (λ v. v.num) o
-  num-by None = refl
-  num-by (Some v) = refl
+  id-by : (o : Option (VersionOf C)) → option_map id_of (option_map (version_by f) o) ≡ option_map id_of o
+  id-by None = refl
+  id-by (Some v) = refl
 
   number-by : (o : Option (PartOf C)) → option_map (λ p. p.number) (option_map (part_by f) o) ≡ option_map (λ p. p.number) o
   number-by None = refl
@@ -160,9 +161,9 @@ module _ {C D : Type 0} (f : C → D) where
     parts-by v page = rw (shown_parts-by f size length_c same v.bucket v.num page.rows, number-by page.next) refl
 
     unfinished_files-by : (settings : Settings) (key : Option Key) (page : Page (VersionOf C))
-        → shows {C = D} [] (answer.Unfinished (map (shown_file size settings key) (map (version_by f) page.rows)) (option_map (λ v. v.num) (option_map (version_by f) page.next)))
-        ≡ plan_by f (shows [] (answer.Unfinished (map (shown_file length_c settings key) page.rows) (option_map (λ v. v.num) page.next)))
-    unfinished_files-by settings key page = rw (shown_files-by f size length_c same settings key page.rows, num-by page.next) refl
+        → shows {C = D} [] (answer.Unfinished (map (shown_file size settings key) (map (version_by f) page.rows)) (option_map id_of (option_map (version_by f) page.next)))
+        ≡ plan_by f (shows [] (answer.Unfinished (map (shown_file length_c settings key) page.rows) (option_map id_of page.next)))
+    unfinished_files-by settings key page = rw (shown_files-by f size length_c same settings key page.rows, id-by page.next) refl
 
     names-by : (settings : Settings) (key : Option Key) (b : ℕ) (page : Page (Row C))
         → shows {C = D} [] (answer.FileNames (map (shown_row size settings key b) (map (row_by f) page.rows)) (option_map row_name (option_map (row_by f) page.next)))
@@ -196,7 +197,7 @@ module _ {C D : Type 0} (f : C → D) where
         ∙ ap {B = Plan D} (λ shown. writes (finish_rules length_c M.settings.part_min c.digests v) (change.Finish (id_of v) (at_finish M t v)) (answer.File shown)) (shown_finished-by M.settings key (at_finish M t v) v))
     plan-by M t words key (call.CancelLargeFile c) = on_file-by M c.bucket c.file _ _ (λ v. refl)
     plan-by M t words key (call.ListUnfinishedLargeFiles c) = on_bucket-by M c.bucket _ _ (λ b.
-        ap {A = Page (VersionOf D)} {B = Plan D} (λ page. shows [] (answer.Unfinished (map (shown_file size M.settings key) page.rows) (option_map (λ v. v.num) page.next))) (unfinished-by f M b.num (unwrap_or c.prefix []) (unwrap_or c.start 0) c.max)
+        ap {A = Page (VersionOf D)} {B = Plan D} (λ page. shows [] (answer.Unfinished (map (shown_file size M.settings key) page.rows) (option_map id_of page.next))) (unfinished-by f M b.num (unwrap_or c.prefix []) (unwrap_or c.start 0) c.max)
         ∙ unfinished_files-by M.settings key (unfinished_page M b.num (unwrap_or c.prefix []) (unwrap_or c.start 0) c.max))
     plan-by M t words key (call.ListFileNames c) = on_bucket-by M c.bucket _ _ (λ b.
         ap {A = Page (Row D)} {B = Plan D} (λ page. shows [] (answer.FileNames (map (shown_row size M.settings key b.num) page.rows) (option_map row_name page.next))) (names_page-by f M b.num (listing_of c))

@@ -91,4 +91,4 @@ key_number id = if length id == 12 then 0 else fold (λ n digit. 16 * n + digit_
 abbrev pub list_keys : {C : Type 0} → State C → ListKeysCall → Plan C
 list_keys M c =
     let page = keys_page M (unwrap_or (option_map key_number c.start) 0) c.max in
-    shows [] (answer.Keys (map (shown_key M.settings) page.rows) (option_map (λ k. k.num) page.next))
+    shows [] (answer.Keys (map (shown_key M.settings) page.rows) (option_map (λ k. key_id M.settings.account k.num) page.next))

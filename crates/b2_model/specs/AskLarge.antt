@@ -84,4 +84,4 @@ finish_large_file size M key t c = on_file M c.bucket c.file (λ v. writes
     (answer.File (shown_file size M.settings key (finished (at_finish M t v) v))))
 
 abbrev pub cancel_large_file : {C : Type 0} → State C → FileCall → Plan C
-cancel_large_file M c = on_file M c.bucket c.file (λ v. writes (not_large v ∷ []) (change.Cancel (id_of v)) (answer.Cancelled (shown_name v)))
+cancel_large_file M c = on_file M c.bucket c.file (λ v. writes (not_large v ∷ []) (change.Cancel (id_of v)) (answer.Cancelled M.settings.account (shown_name v)))

@@ -1,8 +1,4 @@
-pub mod Head
 pub mod Basic
-pub mod Rules
-pub mod Answer
-pub mod Reply
 pub mod Kinds
 pub mod Checks
 pub mod State
@@ -33,4 +29,5 @@ pub mod Run
 pub mod LifecycleRules
 pub mod Stored
 pub mod FaultTable
+pub mod Said
 pub mod Contents

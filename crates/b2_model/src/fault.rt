@@ -1,7 +1,11 @@
 //! Why a request is refused.
 
+ghost use Rattle.std.specs.Prelude.{◌≡◌};
+ghost use Rattle.b2_model.specs.Checks.{plain};
+
 use b2_base::{BucketNum, Text, VersionNum};
 use rule_table::{CallName, FaultKind};
+use std::alloc::Global;
 
 /// A refusal, with the word or number that its kind carries; else these are empty and 0.
 #[derive(Drop)]
@@ -9,6 +13,19 @@ pub struct Fault {
     pub kind: FaultKind,
     pub word: Text,
     pub number: u64,
+}
+
+impl Fault {
+    /// A fault that carries nothing.
+    pub fn plain(alloc: Global, kind: FaultKind) -> Fault
+        ensures { result ≡ plain kind }
+    {
+        Fault {
+            kind,
+            word: Text::of(String::new(alloc)),
+            number: 0,
+        }
+    }
 }
 
 /// What the path of an upload names.

@@ -1,7 +1,6 @@
 //! The types and definitions of the version machine.
 #![tactic(auto)]
 
-mod answer;
 mod bucket;
 mod call;
 mod denial;
@@ -12,11 +11,11 @@ mod kinds;
 mod laws;
 mod need_table;
 mod record;
+mod request;
 mod shown;
 mod upload;
 mod version;
 
-pub use answer::Answer;
 pub use bucket::{Bucket, DefaultRetention, Rule};
 pub use call::{
     Authorize, AuthorizeDownload, ByteRange, Call, CreateBucket, CreateKey, DeleteBucket,
@@ -35,9 +34,10 @@ pub use laws::{
 };
 pub use need_table::{Need, Thing, need_of};
 pub use record::{ChangeOf, NewVersion, Numbers, Record, RecordOf, VersionId};
+pub use request::Request;
 pub use shown::{
-    AnswerOf, ContentOf, RowKind, ShownAccount, ShownBucket, ShownDigest, ShownFile, ShownKey,
-    ShownLock, ShownName, ShownPart,
+    Answer, AnswerOf, ContentOf, RowKind, ShownAccount, ShownBucket, ShownDigest, ShownFile,
+    ShownKey, ShownLock, ShownName, ShownPart,
 };
 pub use upload::{DigestRule, FileUpload, PartUpload, UploadCall};
 pub use version::{Part, PartOf, Version, VersionOf};

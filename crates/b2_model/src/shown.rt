@@ -3,7 +3,8 @@
 use crate::bucket::{DefaultRetention, Rule};
 use crate::fault::Fault;
 use crate::kinds::{Mark, Retention};
-use b2_base::{BucketNum, KeyNum, List, Moment, Text, VersionNum};
+use crate::record::VersionId;
+use b2_base::{BucketNum, Extent, KeyNum, List, Moment, Text, VersionNum};
 use name_rules::{BucketName, FileName, InfoPairs};
 use rule_table::CapSet;
 
@@ -134,8 +135,8 @@ pub enum AnswerOf<C> {
     /// A new key with its secret's text.
     NewKey(ShownKey, Text),
     Key(ShownKey),
-    /// Keys, and the number of the next.
-    Keys(List<ShownKey>, Option<KeyNum>),
+    /// Keys, and the id of the next.
+    Keys(List<ShownKey>, Option<Text>),
     /// A token to upload files to the bucket, and the URL.
     UploadUrl(BucketNum, Text, Text),
     /// A token to upload parts to the file, and the URL.
@@ -144,13 +145,14 @@ pub enum AnswerOf<C> {
     Part(ShownPart),
     /// Parts, and the number of the next.
     Parts(List<ShownPart>, Option<u32>),
-    Cancelled(ShownName),
+    /// The account's id, and the file.
+    Cancelled(Text, ShownName),
     /// Rows, and the name of the next.
     FileNames(List<ShownFile>, Option<Text>),
-    /// Rows, and the next row, whose number is 0 where it is a folder.
-    FileVersions(List<ShownFile>, Option<(Text, VersionNum)>),
-    /// Rows, and the number of the next.
-    Unfinished(List<ShownFile>, Option<VersionNum>),
+    /// Rows, and the name of the next row with its version, where it is no folder.
+    FileVersions(List<ShownFile>, Option<(Text, Option<VersionId>)>),
+    /// Rows, and the next.
+    Unfinished(List<ShownFile>, Option<VersionId>),
     Deleted(ShownName),
     /// A token to download names of the bucket that begin with the prefix.
     DownloadToken(BucketNum, Text, Text),
@@ -159,3 +161,6 @@ pub enum AnswerOf<C> {
     Hold(ShownName, bool),
     Refused(Fault),
 }
+
+/// An answer whose contents stand at extents.
+pub type Answer = AnswerOf<Extent>;

@@ -1,0 +1,17 @@
+//! Requests.
+
+use b2_base::Text;
+use http_header::{HeaderMap, HeaderValue};
+
+/// What the head of a request says (RFC 9112, sections 3 to 6).
+#[derive(Drop)]
+pub struct Request {
+    pub method: Text,
+    /// The target before its first question mark.
+    pub path: Text,
+    /// The target behind it; empty where there is none.
+    pub query: Text,
+    pub headers: HeaderMap<HeaderValue>,
+    /// The bytes of the body; 0 where the request is for no call.
+    pub length: u64,
+}
