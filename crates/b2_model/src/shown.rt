@@ -1,12 +1,16 @@
 //! What answers show.
 
+ghost use Rattle.std.specs.Prelude.{◌≡◌, IfOk};
+ghost use Rattle.b2_model.specs.Said.{digest_text};
+
 use crate::bucket::{DefaultRetention, Rule};
 use crate::fault::Fault;
 use crate::kinds::{Mark, Retention};
 use crate::record::VersionId;
-use b2_base::{BucketNum, Extent, KeyNum, List, Moment, Text, VersionNum};
+use b2_base::{BucketNum, Extent, KeyNum, List, Memory, Moment, Text, VersionNum};
 use name_rules::{BucketName, FileName, InfoPairs};
 use rule_table::CapSet;
+use std::alloc::Global;
 
 /// What a row of a listing is.
 #[derive(Clone, Copy, Debug, PartialEq, Eq)]
@@ -22,6 +26,22 @@ pub enum RowKind {
 pub struct ShownDigest {
     pub mark: Mark,
     pub digest: [u8; 20],
+}
+
+impl ShownDigest {
+    /// The digest in 40 hex digits, behind `unverified:` where the client gave none; `none` where the
+    /// content has no digest of its own.
+    pub fn text(&self, alloc: Global) -> Result<Text, Memory>
+        ensures { IfOk result (λ t. t ≡ digest_text self.now) }
+    {
+        let digits = hex::encode(alloc, self.digest)?;
+        let text = match self.mark {
+            Mark::Verified => digits,
+            Mark::Unverified => format!(in alloc; "unverified:{digits}")?,
+            Mark::Large | Mark::Marker => String::from_str(alloc, "none")?,
+        };
+        Ok(Text::of(text))
+    }
 }
 
 /// A row of a listing of files.

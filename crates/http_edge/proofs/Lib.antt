@@ -1,5 +1,8 @@
 pub mod Bools
-pub mod Fields
 pub mod Ends
+pub mod Clean
+pub mod Heads
+pub mod Texts
+pub mod Lengths
 pub mod Fronts
 pub mod Routes

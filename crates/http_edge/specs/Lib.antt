@@ -1,3 +1,5 @@
-pub mod Head
+pub mod Request
+pub mod Headers
 pub mod Cut
+pub mod Reply
 pub mod Route

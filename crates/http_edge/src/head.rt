@@ -1,29 +1,24 @@
 //! The head of a request.
 
-ghost use Rattle.std.specs.Prelude.{◌≡◌, ◌==◌, length, map, All, option_map, IsSome, IfSome, MatchOption};
-ghost use Rattle.std.specs.Char.{to_ascii_lowercase};
-ghost use Rattle.std.specs.List.{before_first};
-ghost use Rattle.std.specs.Str.{bytes_eq};
+ghost use Rattle.std.specs.Prelude.{◌≡◌, ◌≤◌, ◌==◌, ℕ, length, take, All, IsSome, IfSome, IfOk, IsUtf8, MatchOption};
+ghost use Rattle.std.specs.List.{before_first, after_first};
 ghost use Rattle.httparse.specs.Grammar.{RequestHead};
-ghost use Rattle.httparse.specs.Spans.{IsHeaderWithin, IsRequestAt, IsRequestWithin, header_bytes};
-ghost use Rattle.b2_model.specs.Head.{IsHead, HasHead};
-ghost use Rattle.http_edge.specs.Head.{Tells, value_in};
+ghost use Rattle.httparse.specs.Spans.{IsRequestAt, IsRequestWithin, span_bytes};
+ghost use Rattle.b2_base.specs.Failure.{IfFault};
+ghost use Rattle.b2_model.specs.Checks.{plain};
+ghost use Rattle.http_edge.specs.Request.{IsHead, HasHead, IsRequest, IsHeadFault, HasLength, HasBadLength};
+ghost use Rattle.http_edge.specs.Headers.{IsClean, IsPlain};
 
+use crate::headers::header_map;
+use crate::length::body_length;
+use crate::route::named_for;
+use b2_base::{Memory, Or, Text};
+use b2_model::{Fault, Request};
+use http_header::{HeaderMap, HeaderValue};
 use httparse::Status;
 use httparse::spans::{EMPTY_HEADER_SPAN, HeaderSpan, RequestSpans, parse_request};
-use memchr::memchr;
-
-/// What is asked of a request's head.
-#[derive(Clone, Copy, Debug)]
-pub struct Head<'a> {
-    pub method: &'a [u8],
-    /// The target before its first question mark.
-    pub path: &'a [u8],
-    /// The value of the first `Authorization` field.
-    pub authorization: Option<&'a [u8]>,
-    /// Whether a `Content-Length` or a `Transfer-Encoding` field stands.
-    pub has_length: bool,
-}
+use rule_table::FaultKind;
+use std::alloc::Global;
 
 // Where the parts of the head are, if the bytes are one, all of them, with at most 64 fields.
 fn whole_request(bytes: &[u8], room: &mut [HeaderSpan]) -> Option<RequestSpans>
@@ -32,6 +27,9 @@ fn whole_request(bytes: &[u8], room: &mut [HeaderSpan]) -> Option<RequestSpans>
     ensures head { IfSome result (λ spans. (h : RequestHead) × IsHead bytes.now h × IsRequestAt bytes.now room.new spans h) }
     ensures within { IfSome result (IsRequestWithin bytes.now room.new) }
     ensures len { IfSome result (λ spans. spans.len ≡ length bytes.now) }
+    ensures clean { IfSome result (λ spans. All (IsClean bytes.now) (take spans.headers room.new)) }
+    ensures method_text { IfSome result (λ spans. IsUtf8 (span_bytes bytes.now spans.method)) }
+    ensures target_text { IfSome result (λ spans. IsUtf8 (span_bytes bytes.now spans.path)) }
 {
     match parse_request(bytes, room) {
         Ok(Status::Complete(spans)) if spans.len == bytes.len() => Some(spans),
@@ -39,54 +37,58 @@ fn whole_request(bytes: &[u8], room: &mut [HeaderSpan]) -> Option<RequestSpans>
     }
 }
 
-// Whether the header has this name, which is given in lower case.
-fn is_named(bytes: &[u8], header: &HeaderSpan, name: &[u8]) -> bool
-    requires within { IsHeaderWithin (length bytes.now) header.now }
-    requires lower { map to_ascii_lowercase name.now ≡ name.now }
-    ensures { result ≡ bytes_eq (map to_ascii_lowercase (header_bytes bytes.now header.now).0) name.now }
+// The bytes as text, which they are.
+fn text_in(bytes: &[u8]) -> &str
+    requires { IsUtf8 bytes.now }
+    ensures { result.now ≡ bytes.now }
 {
-    header.name.of(bytes).eq_ignore_ascii_case(name)
-}
-
-// The value of the first header of this name, which is given in lower case.
-fn find_value<'a>(bytes: &'a [u8], headers: &[HeaderSpan], name: &[u8]) -> Option<&'a [u8]>
-    requires within { All (IsHeaderWithin (length bytes.now)) headers.now }
-    requires lower { map to_ascii_lowercase name.now ≡ name.now }
-    ensures { option_map (λ value. value.now) result ≡ value_in name.now (map (header_bytes bytes.now) headers.now) }
-{
-    for header in headers {
-        if is_named(bytes, header, name) {
-            return Some(header.value.of(bytes));
-        }
-    }
-    None
-}
-
-// The target before its first question mark.
-fn path_in(target: &[u8]) -> &[u8]
-    ensures { result.now ≡ before_first (λ b. b == 63) target.now }
-{
-    match memchr(b'?', target) {
-        Some(end) => &target[..end],
-        None => target,
+    match str::from_utf8(bytes) {
+        Ok(text) => text,
+        Err(_) => unreachable!(),
     }
 }
 
-/// The head that the bytes are, all of them, with at most 64 fields.
-pub fn read_head(bytes: &[u8]) -> Option<Head<'_>>
-    ensures { MatchOption result (HasHead bytes.now → ⊥) (λ head. (h : RequestHead) × IsHead bytes.now h × Tells head h) }
+// The target before and behind its first question mark.
+fn path_and_query(target: &str) -> (&str, &str)
+    ensures { (result.0.now ≡ before_first (λ b. b == 63) target.now) × (result.1.now ≡ after_first (λ b. b == 63) target.now) }
+{
+    match target.split_once('?') {
+        Some((path, query)) => (path, query),
+        None => (target, ""),
+    }
+}
+
+// The bytes of the body of a request with this method and path.
+fn length_of(method: &str, path: &str, headers: &HeaderMap<HeaderValue>) -> Option<u64>
+    ensures { MatchOption result (HasBadLength method.now path.now headers.now) (HasLength method.now path.now headers.now) }
+{
+    match named_for(method.as_bytes(), path.as_bytes()) {
+        Ok(route) => body_length(route.name, headers),
+        Err(_) => Some(0),
+    }
+}
+
+/// The request whose head these bytes are, all of them, with at most 64 fields.
+pub fn read_head(alloc: Global, bytes: &[u8]) -> Result<Request, Or<Fault>>
+    requires { length bytes.now ≤ 16384 }
+    ensures request { IfOk result (IsRequest bytes.now) }
+    ensures fault { IfFault result (IsPlain (IsHeadFault bytes.now)) }
 {
     let mut room = [EMPTY_HEADER_SPAN; 64];
     let Some(spans) = whole_request(bytes, &mut room) else {
-        return None;
+        return Err(Or::Fault(Fault::plain(alloc, FaultKind::BadHead)));
     };
-    let headers = &room[..spans.headers];
-    let length = find_value(bytes, headers, b"content-length");
-    let coding = find_value(bytes, headers, b"transfer-encoding");
-    Some(Head {
-        method: spans.method.of(bytes),
-        path: path_in(spans.path.of(bytes)),
-        authorization: find_value(bytes, headers, b"authorization"),
-        has_length: length.is_some() | coding.is_some(),
+    let method = text_in(spans.method.of(bytes));
+    let (path, query) = path_and_query(text_in(spans.path.of(bytes)));
+    let headers = header_map(alloc, bytes, &room[..spans.headers])?;
+    let Some(length) = length_of(method, path, &headers) else {
+        return Err(Or::Fault(Fault::plain(alloc, FaultKind::BadLength)));
+    };
+    Ok(Request {
+        method: Text::copy(alloc, method)?,
+        path: Text::copy(alloc, path)?,
+        query: Text::copy(alloc, query)?,
+        headers,
+        length,
     })
 }

@@ -1,13 +1,16 @@
 //! The edge at which bytes become a request, and an answer becomes bytes.
 #![tactic(auto)]
 
+mod content;
 mod cut;
 mod head;
+mod headers;
+mod length;
 mod reply;
 mod route;
 
 pub use cut::{Cut, MOST_HEAD, cut_as_it_comes, cut_head};
-pub use head::{Head, read_head};
+pub use head::read_head;
 pub use reply::reply_head;
 pub use route::{Route, route_of};
 

@@ -1,18 +1,21 @@
 //! The head of a reply.
 
 ghost use Rattle.std.specs.Prelude.{◌≡◌, IfOk};
-ghost use Rattle.b2_model.specs.Reply.{reply_status, reason_of, reply_head};
+ghost use Rattle.b2_model.specs.FaultTable.{answer_status};
+ghost use Rattle.http_edge.specs.Reply.{json_head, reply_head, reason_of, IsSendable};
 
+use crate::content::content_head;
 use b2_base::{Memory, Text};
-use b2_model::{Answer, status_of};
+use b2_model::AnswerOf;
 use std::alloc::Global;
 
-// The reason of a status (RFC 9110, section 15).
-fn reason_of(status: u16) -> &'static str
+/// The reason of a status (RFC 9110, section 15).
+pub(crate) fn reason_of(status: u16) -> &'static str
     ensures { result.now ≡ reason_of status }
 {
     match status {
         200 => "OK",
+        206 => "Partial Content",
         400 => "Bad Request",
         401 => "Unauthorized",
         403 => "Forbidden",
@@ -24,23 +27,23 @@ fn reason_of(status: u16) -> &'static str
     }
 }
 
-fn reply_status(answer: &Answer) -> u16
-    ensures { result ≡ reply_status answer.now }
+fn json_head(alloc: Global, status: u16, len: u64) -> Result<Text, Memory>
+    ensures { IfOk result (λ t. t ≡ json_head status len) }
 {
-    match answer {
-        Answer::Account(_) => 200,
-        Answer::Refused(kind) => status_of(*kind),
-    }
-}
-
-/// The head of the reply to an answer, whose body is JSON of `len` bytes.
-pub fn reply_head(alloc: Global, answer: &Answer, len: usize) -> Result<Text, Memory>
-    ensures { IfOk result (λ t. t ≡ reply_head (reply_status answer.now) (reason_of (reply_status answer.now)) len) }
-{
-    let status = reply_status(answer);
     let reason = reason_of(status);
     let head = format!(in alloc;
         "HTTP/1.1 {status} {reason}\r\nContent-Type: application/json;charset=utf-8\r\nContent-Length: {len}\r\nConnection: close\r\n\r\n"
     )?;
     Ok(Text::of(head))
+}
+
+/// The head of the reply to an answer, whose body has `len` bytes.
+pub fn reply_head<C>(alloc: Global, answer: &AnswerOf<C>, len: u64) -> Result<Text, Memory>
+    requires { IsSendable answer.now }
+    ensures { IfOk result (λ t. t ≡ reply_head answer.now len) }
+{
+    match answer {
+        AnswerOf::Content(content) => content_head(alloc, content, len),
+        _ => json_head(alloc, answer.status(), len),
+    }
 }

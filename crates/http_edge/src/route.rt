@@ -1,17 +1,20 @@
 //! Which call a request is for.
 
-ghost use Rattle.std.specs.Prelude.{◌≡◌, ◌≢◌, ◌↔◌, ◌<◌, ◌^◌, ℕ, true, IsTrue, MatchOption, MatchResult, Some};
+ghost use Rattle.std.specs.Prelude.{◌≡◌, ◌≢◌, ◌↔◌, ◌<◌, ◌^◌, ℕ, true, IsTrue, MatchOption, MatchResult, IfOk, Some};
+ghost use Rattle.b2_base.specs.Failure.{IfFault};
 ghost use Rattle.rule_table.specs.declared.call.CallName.{CallName as TheName};
 ghost use Rattle.rule_table.specs.declared.call.CallName.TheVariants.{UploadFile, UploadPart, DownloadFileByName};
 ghost use Rattle.b2_model.specs.declared.fault.Target.{Target as TheTarget};
 ghost use Rattle.b2_model.specs.declared.fault.Target.TheVariants.{Nothing};
 ghost use Rattle.b2_model.specs.Plan.{bucket_id};
 ghost use Rattle.http_edge.specs.declared.route.Route.{Route as TheRoute};
+ghost use Rattle.http_edge.specs.Headers.{IsPlain};
 ghost use Rattle.http_edge.specs.Route.{is_plain, IsPathOf, IsPath, takes, serves, IsRouted, IsRouteFault};
 
-use b2_base::{BucketNum, FileId, behind, cut_at, read_eight};
-use b2_model::Target;
+use b2_base::{BucketNum, FileId, Or, behind, cut_at, read_eight};
+use b2_model::{Fault, Request, Target};
 use rule_table::{CallName, FaultKind, calls};
+use std::alloc::Global;
 
 /// A call, and what its path names.
 #[derive(Clone, Copy, Debug, PartialEq, Eq)]
@@ -140,7 +143,7 @@ fn takes_method(name: CallName, method: &[u8]) -> bool
 
 /// The call that a request with this method and path is for. A path that is no call's is told before a
 /// method that the call doesn't take.
-pub fn route_of(method: &[u8], path: &[u8]) -> Result<Route, FaultKind>
+pub(crate) fn named_for(method: &[u8], path: &[u8]) -> Result<Route, FaultKind>
     ensures { MatchResult result (IsRouted method.now path.now) (IsRouteFault method.now path.now) }
 {
     let Some(route) = named_by(path) else {
@@ -153,5 +156,19 @@ pub fn route_of(method: &[u8], path: &[u8]) -> Result<Route, FaultKind>
         Ok(route)
     } else {
         Err(FaultKind::BadMethod)
+    }
+}
+
+/// The call that the request is for. A path that is no call's is told before a method that the call
+/// doesn't take.
+pub fn route_of(alloc: Global, request: &Request) -> Result<Route, Or<Fault>>
+    ensures route { IfOk result (IsRouted request.now.method request.now.path) }
+    ensures fault { IfFault result (IsPlain (IsRouteFault request.now.method request.now.path)) }
+{
+    let method = request.method.get().as_bytes();
+    let path = request.path.get().as_bytes();
+    match named_for(method, path) {
+        Ok(route) => Ok(route),
+        Err(kind) => Err(Or::Fault(Fault::plain(alloc, kind))),
     }
 }

@@ -28,11 +28,18 @@ pub const ESCAPED: AsciiSet = ascii_set!(
         .remove(b'@')
 );
 
+/// The text with the escapes of a name, as a value of information stands in a header.
+pub fn encode_text(alloc: Global, text: &str) -> Result<Text, Memory>
+    ensures { IfOk result (λ t. t ≡ encoded_name text.now) }
+{
+    let mut encoded = String::new(alloc);
+    percent_encode(text.as_bytes(), ESCAPED).append_to(&mut encoded)?;
+    Ok(Text::of(encoded))
+}
+
 /// The name as it stands in a path or a header.
 pub fn encode_name(alloc: Global, name: &FileName) -> Result<Text, Memory>
     ensures { IfOk result (λ t. t ≡ encoded_name name.now) }
 {
-    let mut text = String::new(alloc);
-    percent_encode(name.get().as_bytes(), ESCAPED).append_to(&mut text)?;
-    Ok(Text::of(text))
+    encode_text(alloc, name.get())
 }

@@ -11,7 +11,7 @@ mod laws;
 
 pub use bucket::{BucketFault, BucketName, bucket_name};
 pub use decode::{EscapeFault, decode_name};
-pub use escape::{ESCAPED, encode_name};
+pub use escape::{ESCAPED, encode_name, encode_text};
 pub use file::{FileName, NameFault, file_name};
 pub use folder::{folder_of, is_prefix};
 pub use info::{InfoFault, InfoPairs, info_pairs};

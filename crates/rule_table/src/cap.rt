@@ -1,7 +1,7 @@
 //! Capabilities of keys, in the order of their table.
 
 ghost use Rattle.std.specs.Prelude.{◌≡◌};
-ghost use Rattle.rule_table.specs.Cap.{cap_names};
+ghost use Rattle.rule_table.specs.Cap.{cap_names, cap_order};
 
 use crate::placed::Placed;
 use crate::table::Table;
@@ -54,37 +54,42 @@ impl Placed for Cap {
     }
 
     fn at(place: usize) -> Option<Cap> {
-        [
-            Cap::ListKeys,
-            Cap::WriteKeys,
-            Cap::DeleteKeys,
-            Cap::ListAllBucketNames,
-            Cap::ListBuckets,
-            Cap::ReadBuckets,
-            Cap::WriteBuckets,
-            Cap::DeleteBuckets,
-            Cap::ReadBucketRetentions,
-            Cap::WriteBucketRetentions,
-            Cap::ReadBucketEncryption,
-            Cap::WriteBucketEncryption,
-            Cap::ReadBucketReplications,
-            Cap::WriteBucketReplications,
-            Cap::ReadBucketNotifications,
-            Cap::WriteBucketNotifications,
-            Cap::ListFiles,
-            Cap::ReadFiles,
-            Cap::ShareFiles,
-            Cap::WriteFiles,
-            Cap::DeleteFiles,
-            Cap::ReadFileLegalHolds,
-            Cap::WriteFileLegalHolds,
-            Cap::ReadFileRetentions,
-            Cap::WriteFileRetentions,
-            Cap::BypassGovernance,
-        ]
-        .get(place)
-        .copied()
+        every_cap().get(place).copied()
     }
+}
+
+/// All capabilities, in the order of their table.
+pub fn every_cap() -> [Cap; 26]
+    ensures { result ≡ cap_order }
+{
+    [
+        Cap::ListKeys,
+        Cap::WriteKeys,
+        Cap::DeleteKeys,
+        Cap::ListAllBucketNames,
+        Cap::ListBuckets,
+        Cap::ReadBuckets,
+        Cap::WriteBuckets,
+        Cap::DeleteBuckets,
+        Cap::ReadBucketRetentions,
+        Cap::WriteBucketRetentions,
+        Cap::ReadBucketEncryption,
+        Cap::WriteBucketEncryption,
+        Cap::ReadBucketReplications,
+        Cap::WriteBucketReplications,
+        Cap::ReadBucketNotifications,
+        Cap::WriteBucketNotifications,
+        Cap::ListFiles,
+        Cap::ReadFiles,
+        Cap::ShareFiles,
+        Cap::WriteFiles,
+        Cap::DeleteFiles,
+        Cap::ReadFileLegalHolds,
+        Cap::WriteFileLegalHolds,
+        Cap::ReadFileRetentions,
+        Cap::WriteFileRetentions,
+        Cap::BypassGovernance,
+    ]
 }
 
 /// The capabilities and their names.

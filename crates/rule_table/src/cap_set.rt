@@ -2,7 +2,8 @@
 
 ghost use Rattle.std.specs.Prelude.{◌≡◌, ◌↔◌, ◌⊎◌, IsTrue};
 ghost use Rattle.rule_table.specs.declared.cap.Cap.{Cap as TheCap};
-ghost use Rattle.rule_table.specs.CapSet.{HasCap, IsWithin};
+ghost use Rattle.rule_table.specs.Cap.{cap_order};
+ghost use Rattle.rule_table.specs.CapSet.{HasCap, IsWithin, has, set_of};
 
 use crate::cap::Cap;
 use crate::placed::Placed;
@@ -22,9 +23,17 @@ impl CapSet {
         CapSet { held: [false; 26] }
     }
 
+    /// All capabilities.
+    pub fn all() -> CapSet
+        ensures { result ≡ set_of cap_order }
+    {
+        CapSet { held: [true; 26] }
+    }
+
     /// Whether the capability is in the set.
     pub fn has(&self, c: Cap) -> bool
-        ensures { IsTrue result ↔ HasCap self.now c }
+        ensures flag { IsTrue result ↔ HasCap self.now c }
+        ensures test { result ≡ has self.now c }
     {
         self.held[c.place()]
     }

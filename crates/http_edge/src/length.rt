@@ -1,0 +1,120 @@
+//! How long the body of a request is.
+
+ghost use Rattle.std.specs.Prelude.{◌≡◌, ◌↔◌, true, false, slice_index, EachIndex, IsTrue, MatchOption};
+ghost use Rattle.std.specs.Int.{IsInRange};
+ghost use Rattle.std.specs.Str.Parse.{digits_value};
+ghost use Rattle.http_edge.specs.Request.{lengths, is_length, are_lengths, told_length, is_upload, has_digest_last, least_body, most_body, is_bad_length};
+
+use http_header::{HeaderMap, HeaderValue};
+use rule_table::CallName;
+
+// The most bytes of a JSON body and of a content, and the bytes of a digest behind a content.
+const MOST_JSON: u64 = 1_048_576;
+const MOST_CONTENT: u64 = 5_000_000_000;
+const DIGEST: u64 = 40;
+
+fn is_digits(text: &[u8]) -> bool
+    ensures { IsTrue result ↔ EachIndex text.now (λ i. IsInRange 48 57 (slice_index text.now i)) }
+{
+    text.iter().all(|byte| byte.is_ascii_digit())
+}
+
+fn is_length(text: &[u8]) -> bool
+    ensures { result ≡ is_length text.now }
+{
+    let is_short = (1 <= text.len()) & (text.len() <= 19);
+    is_short & is_digits(text)
+}
+
+// The number that a length of a body writes.
+fn number_in(text: &[u8]) -> Option<u64>
+    ensures { MatchOption result (is_length text.now ≡ false) (λ n. (is_length text.now ≡ true) × (n ≡ digits_value 10 text.now)) }
+{
+    if !is_length(text) {
+        return None;
+    }
+    let Ok(text) = str::from_utf8(text) else {
+        return None;
+    };
+    let Ok(number) = text.parse::<u64>() else {
+        return None;
+    };
+    Some(number)
+}
+
+// The length that the headers give, or none where they give more than one, or something else.
+fn told_length(headers: &HeaderMap<HeaderValue>) -> Option<u64>
+    ensures { MatchOption result (are_lengths (lengths headers.now) ≡ false)
+        (λ n. (are_lengths (lengths headers.now) ≡ true) × (n ≡ told_length (lengths headers.now))) }
+{
+    let all = headers.get_all("content-length");
+    let mut values = all.iter();
+    let Some(first) = values.next() else {
+        return Some(0);
+    };
+    if values.next().is_some() {
+        return None;
+    }
+    number_in(first.as_bytes())
+}
+
+fn has_digest_last(headers: &HeaderMap<HeaderValue>) -> bool
+    ensures { result ≡ has_digest_last headers.now }
+{
+    match headers.get("x-bz-content-sha1") {
+        Some(value) => value.as_bytes() == b"hex_digits_at_end".as_slice(),
+        None => false,
+    }
+}
+
+fn is_upload(name: CallName) -> bool
+    ensures { result ≡ is_upload name }
+{
+    match name {
+        CallName::UploadFile | CallName::UploadPart => true,
+        _ => false,
+    }
+}
+
+fn least_body(name: CallName, headers: &HeaderMap<HeaderValue>) -> u64
+    ensures { result ≡ least_body name headers.now }
+{
+    if is_upload(name) & has_digest_last(headers) {
+        DIGEST
+    } else {
+        0
+    }
+}
+
+fn most_body(name: CallName, headers: &HeaderMap<HeaderValue>) -> u64
+    ensures { result ≡ most_body name headers.now }
+{
+    if !is_upload(name) {
+        return MOST_JSON;
+    }
+    if has_digest_last(headers) {
+        MOST_CONTENT + DIGEST
+    } else {
+        MOST_CONTENT
+    }
+}
+
+/// The bytes of the body of a request for the call, or none where the length is amiss (RFC 9112,
+/// section 6).
+pub(crate) fn body_length(name: CallName, headers: &HeaderMap<HeaderValue>) -> Option<u64>
+    ensures { MatchOption result (is_bad_length name headers.now ≡ true)
+        (λ n. (is_bad_length name headers.now ≡ false) × (n ≡ told_length (lengths headers.now))) }
+{
+    let Some(told) = told_length(headers) else {
+        return None;
+    };
+    let is_coded = headers.get("transfer-encoding").is_some();
+    let is_missing = is_upload(name) & headers.get("content-length").is_none();
+    let is_low = told < least_body(name, headers);
+    let is_high = most_body(name, headers) < told;
+    if is_coded | is_missing | is_low | is_high {
+        None
+    } else {
+        Some(told)
+    }
+}
