@@ -40,7 +40,7 @@ none_more bytes at end before not_here most (inr higher) (start, line, begun) =
     not_here (other_before bytes at start here begun) (start, here)
 
 -- an empty line ends in the bytes
-ends_within : (bytes : List ℕ) (start end : ℕ) → IsEmptyLine bytes start end → end ≤ length bytes
+pub ends_within : (bytes : List ℕ) (start end : ℕ) → IsEmptyLine bytes start end → end ≤ length bytes
 ends_within bytes start end (inl two) = let last = two.2.0 in omega (arith, two.0, last)
 ends_within bytes start end (inr three) = let last = three.3.0 in omega (arith, three.0, last)
 

@@ -1,6 +1,6 @@
 -- The bytes that answer a request: a head (RFC 9112, sections 4 to 6; RFC 9110, sections 14.4 and 15), and
 -- a body of JSON or the content that was asked for.
-use Rattle.std.specs.Prelude.{◌≡◌, ℕ, ◌+◌, ◌-◌, ◌<◌, ◌≤◌, ◌==◌, Bool, true, List, [], ◌∷◌, ◌++◌, if◌then◌else◌, length, take, drop, unwrap_or, option_map, codes, decimal}
+use Rattle.std.specs.Prelude.{◌≡◌, ℕ, ◌+◌, ◌-◌, ◌<◌, ◌≤◌, ◌==◌, true, List, [], ◌∷◌, ◌++◌, if◌then◌else◌, length, take, drop, unwrap_or, option_map, codes, decimal}
 use Rattle.std.specs.List.{flat_map}
 use Rattle.serde_json.specs.Written.{compact_text}
 use Rattle.b2_base.specs.FileId.{file_id}

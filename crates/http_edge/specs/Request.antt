@@ -105,17 +105,13 @@ HasBadLength method path headers = (route : Route) × IsRouted method path route
 
 -- ---- the request
 
--- the request is what this head says
-pub record Says (h : RequestHead) (r : Request) : Type 0 where
-  pub method : r.method ≡ h.method
-  pub path : r.path ≡ path_of h
-  pub query : r.query ≡ query_of h
-  pub headers : r.headers ≡ headers_of h
-  pub length_is : HasLength h.method (path_of h) (headers_of h) r.length
+-- what the head says, with this length
+abbrev pub request_of : RequestHead → ℕ → Request
+request_of h len = record { method = h.method; path = path_of h; query = query_of h; headers = headers_of h; length = len }
 
 -- the bytes, all of them, are the head of this request
 abbrev pub IsRequest : List ℕ → Request → Type 0
-IsRequest bytes r = (h : RequestHead) × IsHead bytes h × Says h r
+IsRequest bytes r = (h : RequestHead) × IsHead bytes h × (r ≡ request_of h r.length) × HasLength h.method (path_of h) (headers_of h) r.length
 
 -- why they are none
 abbrev pub IsHeadFault : List ℕ → FaultKind → Type 0

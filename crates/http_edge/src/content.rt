@@ -89,17 +89,25 @@ fn first_lines<C>(alloc: Global, content: &ContentOf<C>, len: u64) -> Result<Str
     let status = content_status(content);
     let reason = reason_of(status);
     let kind = kind_shown(&content.file);
-    Ok(format!(in alloc; "HTTP/1.1 {status} {reason}\r\nContent-Type: {kind}\r\nContent-Length: {len}\r\n")?)
+    Ok(format!(in alloc;
+        "HTTP/1.1 {status} {reason}\r\nContent-Type: {kind}\r\nContent-Length: {len}\r\n"
+    )?)
 }
 
 /// The head of a reply whose body is the content, or the range of it that was asked for.
-pub(crate) fn content_head<C>(alloc: Global, content: &ContentOf<C>, len: u64) -> Result<Text, Memory>
+pub(crate) fn content_head<C>(
+    alloc: Global,
+    content: &ContentOf<C>,
+    len: u64,
+) -> Result<Text, Memory>
     requires { content.now.part ≡ true → (0 < content.now.len) × (content.now.at + content.now.len ≤ content.now.file.length) }
     ensures { IfOk result (λ t. t ≡ content_head content.now len) }
 {
     let first = first_lines(alloc, content, len)?;
     let range = range_line(alloc, content)?;
     let file = file_lines(alloc, &content.file)?;
-    let head = format!(in alloc; "{first}{range}Accept-Ranges: bytes\r\n{file}Connection: close\r\n\r\n")?;
+    let head = format!(in alloc;
+        "{first}{range}Accept-Ranges: bytes\r\n{file}Connection: close\r\n\r\n"
+    )?;
     Ok(Text::of(head))
 }

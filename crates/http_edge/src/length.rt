@@ -10,7 +10,9 @@ use rule_table::CallName;
 
 // The most bytes of a JSON body and of a content, and the bytes of a digest behind a content.
 const MOST_JSON: u64 = 1_048_576;
+
 const MOST_CONTENT: u64 = 5_000_000_000;
+
 const DIGEST: u64 = 40;
 
 fn is_digits(text: &[u8]) -> bool

@@ -1,6 +1,6 @@
 use Rattle.std.proofs.Common.{◌∙◌, ap, refl}
 use Rattle.http_edge.specs.Request.{headers_by}
-use Rattle.http_edge.proofs.Heads.{says, bad_length}
+use Rattle.http_edge.proofs.Heads.{is_request, bad_length}
 use Rattle.http_edge.proofs.head.read_head.Goals as goal
 
 pub returns-in_default-length_of-clause-fault : goal.returns-in_default-length_of-clause-fault
@@ -13,6 +13,7 @@ returns-in_default-length_of-clause-fault c =
 pub returns-clause-request : goal.returns-clause-request
 returns-clause-request c =
     let found = c.in-Some.ensures.head in
-    (found.0, found.1, says found.0 _ c.text_in-method.result.now c.text_in.result.now c.path_and_query.result.0.now c.path_and_query.result.1.now c.in_ok-headers.headers
+    let both = is_request found.0 _ c.text_in-method.result.now c.text_in.result.now c.path_and_query.result.0.now c.path_and_query.result.1.now c.in_ok-headers.headers
     (c.text_in-method.ensures ∙ c.of.ensures ∙ found.2.method) (c.text_in.ensures ∙ c.of-2.ensures ∙ found.2.path) c.path_and_query.ensures.0 c.path_and_query.ensures.1
-    (c.in_ok-headers.ensures ∙ ap headers_by found.2.fields) c.in-Some-length_of.ensures c.in_ok-copy.ensures c.in_ok-copy-2.ensures c.in_ok-copy-3.ensures refl)
+    (c.in_ok-headers.ensures ∙ ap headers_by found.2.fields) c.in-Some-length_of.ensures c.in_ok-copy.ensures c.in_ok-copy-2.ensures c.in_ok-copy-3.ensures refl in
+    (found.0, found.1, both.0, both.1)

@@ -1,6 +1,5 @@
-use Rattle.std.proofs.Common.{ℕ, List, Err, sym, ap, subst, ◌∙◌}
+use Rattle.std.proofs.Common.{Err, ap, ◌∙◌}
 use Rattle.std.proofs.lemmas.Bool.{false_from_ne_true}
-use Rattle.std.specs.Str.Parse.{ParsesUnsigned}
 use Rattle.http_edge.specs.Request.{is_length}
 use Rattle.http_edge.proofs.Lengths.{length_text, reads}
 use Rattle.http_edge.proofs.length.number_in.Goals as goal
