@@ -3,8 +3,10 @@
 ghost use Rattle.std.specs.Prelude.{◌≡◌, ℕ, List, IfOk, IfSome, MatchOption};
 ghost use Rattle.b2_model.specs.Basic.{IsBasic};
 ghost use Rattle.api_json.specs.Basic.{IsPair};
+ghost use Rattle.api_json.specs.Call.{HasCredentials};
 
 use b2_base::{Memory, Text};
+use b2_model::{Authorize, Request};
 use base64::DecodeAllocError;
 use base64::engine::general_purpose::STANDARD;
 use std::alloc::Global;
@@ -42,4 +44,15 @@ pub fn basic(alloc: Global, value: &[u8]) -> Result<Option<(Text, Text)>, Memory
     let user = Text::copy(alloc, user)?;
     let secret = Text::copy(alloc, secret)?;
     Ok(Some((user, secret)))
+}
+
+/// The authorize call that a request is.
+pub fn authorize_call(alloc: Global, request: &Request) -> Result<Authorize, Memory>
+    ensures { IfOk result (λ call. HasCredentials request.now call.credentials) }
+{
+    let credentials = match request.headers.get("authorization") {
+        Some(value) => basic(alloc, value.as_bytes())?,
+        None => None,
+    };
+    Ok(Authorize { credentials })
 }

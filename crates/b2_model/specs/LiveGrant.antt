@@ -17,7 +17,11 @@ is_live M t g = nat_lt t g.end && some_and (λ k. is_before_end t k.end) (key_at
 abbrev pub grant_at : {C : Type 0} → State C → List ℕ → Option Grant
 grant_at M text = find (λ g. bytes_eq g.text text) M.grants
 
--- the store's boot number, the token's serial since that boot, and two random words
+-- the text of a token: the store's boot number, the token's serial since that boot, and two random words
+abbrev pub token_text : ℕ → ℕ → ℕ → ℕ → List ℕ
+token_text boot serial first second =
+    codes "3_" ++ eight_digits boot ++ 95 ∷ sixteen_digits serial ++ 95 ∷ sixteen_digits first ++ 95 ∷ sixteen_digits second
+
+-- the next token's
 abbrev pub token_of : {C : Type 0} → State C → ℕ → ℕ → List ℕ
-token_of M first second =
-    codes "3_" ++ eight_digits M.boot ++ 95 ∷ sixteen_digits (M.serial + 1) ++ 95 ∷ sixteen_digits first ++ 95 ∷ sixteen_digits second
+token_of M first second = token_text M.boot (M.serial + 1) first second

@@ -1,3 +1,2 @@
-pub mod Judging
+pub mod FirstPath
 pub mod Runs
-pub mod Once

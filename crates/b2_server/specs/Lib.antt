@@ -1,4 +1,3 @@
 pub mod Store
-pub mod Json
-pub mod Judge
+pub mod Answer
 pub mod Run

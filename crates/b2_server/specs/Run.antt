@@ -1,13 +1,13 @@
 -- What a run of the program does, from the script's bytes to the output's bytes.
-use Rattle.std.specs.Prelude.{◌≡◌, ℕ, List, [], ◌∷◌, Option, codes}
+use Rattle.std.specs.Prelude.{◌≡◌, ℕ, List, [], ◌∷◌, ◌++◌, Option, Some, None, option_map, length, codes, decimal}
 use Rattle.std.specs.Io.KnownBytes.{Appends}
 use Rattle.outside_traits.specs.Causes.{Rose}
 use Rattle.outside_traits.specs.Bytes.{AppendsFront}
 use Rattle.replay_script.specs.Line.{Line}
-use Rattle.replay_script.specs.Script.{ReadsScript, HasFirstWrong, head_of, words_of, conn_of}
-use Rattle.b2_model.specs.Answer.{IsAnswer}
-use Rattle.b2_model.specs.Reply.{reply_of, output_of}
-use Rattle.b2_model.specs.declared.answer.Answer.{Answer}
+use Rattle.replay_script.specs.Script.{ReadsScript, HasFirstWrong, reading_of, head_of, words_of, conn_of}
+use Rattle.b2_model.specs.declared.shown.AnswerOf.{AnswerOf}
+use Rattle.http_edge.specs.Reply.{reply_of}
+use Rattle.b2_server.specs.Answer.{IsAnswered}
 use Rattle.b2_server.specs.Store.{fixed_store}
 use Rattle.b2_server.specs.declared.run.Status.{Status}
 use Rattle.b2_server.specs.declared.run.Status.TheVariants as status
@@ -16,10 +16,16 @@ use Rattle.b2_server.specs.declared.run.Status.TheVariants as status
 abbrev pub IsReplay : List (List ℕ) → Type 0
 IsReplay words = words ≡ codes "replay" ∷ []
 
--- the output for a script of these lines: it shows the reply to the answer that its request gets
+-- what is shown of a connection: nothing where nothing is sent; else the reply, which is sent whole and in
+-- one piece, and that the connection was then closed
+abbrev pub shown : ℕ → Option (List ℕ) → List ℕ
+shown conn None = []
+shown conn (Some reply) = codes "sent " ++ decimal conn ++ codes " " ++ decimal (length reply) ++ 10 ∷ reply ++ 10 ∷ codes "close " ++ decimal conn ++ 10 ∷ []
+
+-- the output for a script of these lines shows what is answered to the bytes of its connection
 abbrev pub IsOutput : List Line → List ℕ → Type 0
 IsOutput lines output =
-    (answer : Answer) × IsAnswer fixed_store (words_of lines) (head_of lines) answer × (output ≡ output_of (conn_of lines) (reply_of fixed_store answer))
+    (answer : Option (AnswerOf (List ℕ))) × IsAnswered fixed_store (reading_of lines) (words_of lines) (head_of lines) answer × (output ≡ shown (conn_of lines) (option_map reply_of answer))
 
 -- the bytes are a script, and this is the output for it
 abbrev pub HasOutput : List ℕ → List ℕ → Type 0

@@ -1,12 +1,9 @@
 //! The server: what `b2d` does, over any source and sink.
 #![tactic(auto)]
 
-mod account;
-mod answer;
-mod body;
-mod capabilities;
-mod judge;
+mod authorize;
 mod laws;
+mod receive;
 mod reply;
 mod run;
 mod store;

@@ -1,11 +1,17 @@
-//! The reply to an answer, and how it is shown.
+//! Replies, and how they are shown.
 
-ghost use Rattle.std.specs.Prelude.{◌≡◌, ◌++◌, IfOk};
-ghost use Rattle.b2_model.specs.Reply.{reply_of, output_of};
+ghost use Rattle.std.specs.Prelude.{◌≡◌, ◌++◌, ℕ, List, Some, IfOk, option_map};
+ghost use Rattle.b2_model.specs.declared.shown.AnswerOf.{AnswerOf as TheAnswer};
+ghost use Rattle.b2_model.specs.declared.shown.AnswerOf.TheVariants.{Account, Refused};
+ghost use Rattle.http_edge.specs.Reply.{reply_of};
+ghost use Rattle.b2_server.specs.Answer.{Authorizes, Replies};
+ghost use Rattle.b2_server.specs.Run.{shown};
 
-use crate::body::body;
-use b2_base::{Memory, Settings};
-use b2_model::Answer;
+use crate::authorize::authorize;
+use crate::receive::receive;
+use api_json::{account_body, authorize_call, refusal_body};
+use b2_base::{Memory, Or, Settings};
+use b2_model::{Answer, AnswerOf, Authorize, Fault, ShownAccount};
 use http_edge::reply_head;
 use std::alloc::{AllocError, Global};
 
@@ -19,19 +25,67 @@ fn joined(alloc: Global, first: &[u8], second: &[u8], third: &[u8]) -> Result<Ve
     Ok(all)
 }
 
-/// The bytes of the reply to the answer.
-pub fn reply(alloc: Global, settings: &Settings, answer: &Answer) -> Result<Vec<u8>, Memory>
-    ensures { IfOk result (λ v. v.items ≡ reply_of settings.now answer.now) }
+fn account_reply(alloc: Global, account: ShownAccount) -> Result<Vec<u8>, Memory>
+    ensures { IfOk result (λ v. v.items ≡ reply_of (Account account)) }
 {
-    let body = body(alloc, settings, answer)?;
+    let body = account_body(alloc, &account)?;
     let body = body.get().as_bytes();
-    let head = reply_head(alloc, answer, body.len())?;
+    let answer: Answer = AnswerOf::Account(account);
+    let head = reply_head(alloc, &answer, body.len() as u64)?;
     Ok(joined(alloc, head.get().as_bytes(), body, b"")?)
 }
 
+fn refusal_reply(alloc: Global, fault: Fault) -> Result<Vec<u8>, Memory>
+    ensures { IfOk result (λ v. v.items ≡ reply_of (Refused fault)) }
+{
+    let body = refusal_body(alloc, &fault)?;
+    let body = body.get().as_bytes();
+    let answer: Answer = AnswerOf::Refused(fault);
+    let head = reply_head(alloc, &answer, body.len() as u64)?;
+    Ok(joined(alloc, head.get().as_bytes(), body, b"")?)
+}
+
+// The reply to an authorize call.
+fn authorize_reply(
+    alloc: Global,
+    settings: &Settings,
+    words: &[u64],
+    call: &Authorize,
+) -> Result<Vec<u8>, Memory>
+    ensures { IfOk result (λ v. (told : TheAnswer (List ℕ)) × Authorizes settings.now words.now call.now told × (v.items ≡ reply_of told)) }
+{
+    match authorize(alloc, settings, words, call) {
+        Ok(account) => account_reply(alloc, account),
+        Err(Or::Memory) => Err(Memory),
+        Err(Or::Fault(fault)) => refusal_reply(alloc, fault),
+    }
+}
+
+/// The bytes that answer those of a connection, where there is an answer.
+pub(crate) fn reply(
+    alloc: Global,
+    settings: &Settings,
+    words: &[u64],
+    bytes: &[u8],
+) -> Result<Option<Vec<u8>>, Memory>
+    ensures { IfOk result (λ o. Replies settings.now words.now bytes.now (option_map (λ v. v.items) o)) }
+{
+    let came = match receive(alloc, bytes) {
+        Ok(came) => came,
+        Err(Or::Memory) => return Err(Memory),
+        Err(Or::Fault(fault)) => return Ok(Some(refusal_reply(alloc, fault)?)),
+    };
+    let Some((request, _)) = came else {
+        return Ok(None);
+    };
+    let call = authorize_call(alloc, &request)?;
+    let reply = authorize_reply(alloc, settings, words, &call)?;
+    Ok(Some(reply))
+}
+
 /// What is shown of a connection on which the reply was sent whole, and which was then closed.
-pub fn output(alloc: Global, conn: u32, reply: &[u8]) -> Result<Vec<u8>, Memory>
-    ensures { IfOk result (λ v. v.items ≡ output_of conn reply.now) }
+pub(crate) fn output(alloc: Global, conn: u32, reply: &[u8]) -> Result<Vec<u8>, Memory>
+    ensures { IfOk result (λ v. v.items ≡ shown conn (Some reply.now)) }
 {
     let len = reply.len();
     let front = format!(in alloc; "sent {conn} {len}\n")?;

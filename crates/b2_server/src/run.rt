@@ -6,7 +6,6 @@ ghost use Rattle.replay_script.specs.Line.{Line};
 ghost use Rattle.replay_script.specs.Script.{ReadsScript, HasFirstWrong, Says};
 ghost use Rattle.b2_server.specs.Run.{IsReplay, IsOutput, IsNotUsage, IsNotBadLine, CallsWrong, Leaves, SourceCause, SinkCause, Quiet, IsOkOrMemory};
 
-use crate::answer::answer;
 use crate::reply::{output, reply};
 use crate::store::fixed_settings;
 use b2_base::{Memory, Or, Text};
@@ -35,8 +34,9 @@ fn served(alloc: Global, script: &Script) -> Result<Vec<u8>, Memory>
     ensures { IfOk result (λ v. (lines : List Line) → Says script.now lines → IsOutput lines v.items) }
 {
     let settings = fixed_settings(alloc)?;
-    let answer = answer(alloc, &settings, &script.words, &script.head)?;
-    let reply = reply(alloc, &settings, &answer)?;
+    let Some(reply) = reply(alloc, &settings, &script.words, &script.head)? else {
+        return Ok(Vec::new(alloc));
+    };
     let output = output(alloc, script.conn, &reply)?;
     Ok(output)
 }

@@ -1,7 +1,7 @@
 //! The text of a token.
 
 ghost use Rattle.std.specs.Prelude.{◌≡◌, IfOk};
-ghost use Rattle.b2_model.specs.Answer.{token_text};
+ghost use Rattle.b2_model.specs.LiveGrant.{token_text};
 
 use b2_base::{Memory, Text, write_eight, write_sixteen};
 use std::alloc::Global;

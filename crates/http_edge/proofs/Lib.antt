@@ -2,6 +2,7 @@ pub mod Bools
 pub mod Ends
 pub mod Clean
 pub mod Once
+pub mod Receiving
 pub mod Heads
 pub mod Texts
 pub mod Lengths

@@ -60,7 +60,7 @@ one_route method path a b first second =
     let target = names_nothing path a.name a.target name_a first.path_is ∙ sym (names_nothing path b.name b.target name_b second.path_is) in
     λ i. record { name = name i; target = target i }
 
-routed_or_not : (method path : List ℕ) (route : Route) (kind : FaultKind) → IsRouted method path route → IsRouteFault method path kind → ⊥
+pub routed_or_not : (method path : List ℕ) (route : Route) (kind : FaultKind) → IsRouted method path route → IsRouteFault method path kind → ⊥
 routed_or_not method path route NoCall is none = false≢true (sym (none route is.path_is) ∙ is.served)
 routed_or_not method path route BadMethod is (other, path_is, served, refused) =
     let name = served_name other.name served ∙ sym (served_name route.name is.served) in
