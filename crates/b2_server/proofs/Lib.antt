@@ -1,2 +1,4 @@
 pub mod FirstPath
+pub mod Replies
 pub mod Runs
+pub mod Once

@@ -2,33 +2,26 @@
 use Rattle.std.proofs.Common.{◌≡◌, ℕ, List, [], ◌∷◌, map, Option, Some, IfSome, refl, sym, ap, ◌∙◌, subst, Bor, Bool, IsTrue, ◌↔◌, ◌≤◌, ◌<◌, length, get_or, arith}
 use Rattle.std.specs.Str.{bytes_eq}
 use Rattle.std.proofs.lemmas.Slice.Eq.{bytes_eq-Decides}
-use Rattle.serde_json.specs.Data.{string}
 use Rattle.outside_traits.specs.Causes.{Rose}
 use Rattle.replay_script.specs.Line.{Line}
-use Rattle.replay_script.specs.Script.{Says, words_of, conn_of}
+use Rattle.replay_script.specs.Script.{Says, reading_of, words_of, conn_of}
 use Rattle.replay_script.specs.declared.script.Script.{Script}
 use Rattle.b2_base.specs.declared.settings.Settings.{Settings}
-use Rattle.b2_model.specs.Answer.{IsAnswer}
-use Rattle.b2_model.specs.Reply.{reply_of, output_of}
-use Rattle.b2_model.specs.declared.answer.Answer.{Answer}
+use Rattle.b2_server.specs.Answer.{IsAnswered, Replies}
 use Rattle.b2_server.specs.Store.{fixed_store}
-use Rattle.b2_server.specs.Run.{IsOutput, SourceCause, SinkCause, IsNotUsage, IsNotBadLine, IsOkOrMemory}
+use Rattle.b2_server.specs.Run.{shown, IsOutput, SourceCause, SinkCause, IsNotUsage, IsNotBadLine, IsOkOrMemory}
 use Rattle.b2_server.specs.declared.run.Status.{Status}
 use Rattle.b2_server.specs.declared.run.Status.TheVariants as status
 
-pub strings_of : (texts : List (Bor (List ℕ))) → map (λ text. string text.now) texts ≡ map string (map (λ text. text.now) texts)
-strings_of [] = refl
-strings_of (text ∷ texts) = ap (λ ds. string text.now ∷ ds) (strings_of texts)
-
-pub output_says : (script : Script) (lines : List Line) (settings : Settings) (answer : Answer) (reply output : List ℕ) → Says script lines → settings ≡ fixed_store
-    → IsAnswer settings script.words.items script.head.items answer → reply ≡ reply_of settings answer → output ≡ output_of script.conn reply → IsOutput lines output
-output_says script lines settings answer reply output says same is replied shown =
-    let by_store : Settings → Type 0 = λ s. IsAnswer s script.words.items script.head.items answer in
-    let by_words : List ℕ → Type 0 = λ words. IsAnswer fixed_store words script.head.items answer in
-    let by_head : List ℕ → Type 0 = λ head. IsAnswer fixed_store (words_of lines) head answer in (
+pub output_says : (script : Script) (lines : List Line) (settings : Settings) (reply : Option (List ℕ)) (output : List ℕ) → Says script lines → settings ≡ fixed_store
+    → Replies settings script.words.items script.head.items reply → output ≡ shown script.conn reply → IsOutput lines output
+output_says script lines settings reply output says same (answer, answered, replied) is =
+    let by_store : Settings → Type 0 = λ s. IsAnswered s (reading_of lines) script.words.items script.head.items answer in
+    let by_words : List ℕ → Type 0 = λ words. IsAnswered fixed_store (reading_of lines) words script.head.items answer in
+    let by_head : List ℕ → Type 0 = λ head. IsAnswered fixed_store (reading_of lines) (words_of lines) head answer in (
       answer,
-      subst by_head says.head (subst by_words says.words (subst by_store same is)),
-      shown ∙ ap (λ c. output_of c reply) says.conn ∙ ap (output_of (conn_of lines)) (replied ∙ ap (λ s. reply_of s answer) same),
+      subst by_head says.head (subst by_words says.words (subst by_store same (answered (reading_of lines)))),
+      is ∙ ap (λ c. shown c reply) says.conn ∙ ap (shown (conn_of lines)) replied,
     )
 
 -- no fault is left where no count rose and the script is in the grammar

@@ -1,8 +1,9 @@
 //! The bytes of a connection as one request.
 
-ghost use Rattle.std.specs.Prelude.{◌≡◌, ℕ, List, IfOk, MatchOption};
+ghost use Rattle.std.specs.Prelude.{◌≡◌, ℕ, List, true, IfOk, IfSome, MatchOption};
 ghost use Rattle.b2_base.specs.Failure.{IfFault};
 ghost use Rattle.b2_model.specs.Checks.{plain};
+ghost use Rattle.http_edge.specs.Route.{serves};
 ghost use Rattle.http_edge.specs.Received.{IsReceived, unfinished, malformed, whole};
 
 use b2_base::Or;
@@ -14,6 +15,7 @@ use std::alloc::Global;
 /// The request that came and the call that it is for, or none as long as its head or its body is not whole.
 pub(crate) fn receive(alloc: Global, bytes: &[u8]) -> Result<Option<(Request, Route)>, Or<Fault>>
     ensures came { IfOk result (λ o. MatchOption o (IsReceived bytes.now unfinished) (λ w. (body : List ℕ) × IsReceived bytes.now (whole w.0 w.1 body))) }
+    ensures served { IfOk result (λ o. IfSome o (λ w. serves w.1.name ≡ true)) }
     ensures refused { IfFault result (λ f. (f ≡ plain f.kind) × IsReceived bytes.now (malformed f.kind)) }
 {
     let end = match cut_head(bytes) {

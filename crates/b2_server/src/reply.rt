@@ -3,14 +3,14 @@
 ghost use Rattle.std.specs.Prelude.{◌≡◌, ◌++◌, ℕ, List, Some, IfOk, option_map};
 ghost use Rattle.b2_model.specs.declared.shown.AnswerOf.{AnswerOf as TheAnswer};
 ghost use Rattle.b2_model.specs.declared.shown.AnswerOf.TheVariants.{Account, Refused};
-ghost use Rattle.http_edge.specs.Reply.{reply_of};
+ghost use Rattle.http_edge.specs.Reply.{IsSendable, reply_head, reply_of};
 ghost use Rattle.b2_server.specs.Answer.{Authorizes, Replies};
 ghost use Rattle.b2_server.specs.Run.{shown};
 
 use crate::authorize::authorize;
 use crate::receive::receive;
 use api_json::{account_body, authorize_call, refusal_body};
-use b2_base::{Memory, Or, Settings};
+use b2_base::{Memory, Or, Settings, Text};
 use b2_model::{Answer, AnswerOf, Authorize, Fault, ShownAccount};
 use http_edge::reply_head;
 use std::alloc::{AllocError, Global};
@@ -25,13 +25,23 @@ fn joined(alloc: Global, first: &[u8], second: &[u8], third: &[u8]) -> Result<Ve
     Ok(all)
 }
 
+// The head of the reply to the answer. It is let go by a call of its own, since each way out of a function
+// that holds it lets go of each kind of answer.
+fn head_of(alloc: Global, answer: Answer, len: u64) -> Result<Text, Memory>
+    requires { IsSendable answer }
+    ensures { IfOk result (λ t. t ≡ reply_head answer len) }
+{
+    let head = reply_head(alloc, &answer, len);
+    drop(answer);
+    head
+}
+
 fn account_reply(alloc: Global, account: ShownAccount) -> Result<Vec<u8>, Memory>
     ensures { IfOk result (λ v. v.items ≡ reply_of (Account account)) }
 {
     let body = account_body(alloc, &account)?;
     let body = body.get().as_bytes();
-    let answer: Answer = AnswerOf::Account(account);
-    let head = reply_head(alloc, &answer, body.len() as u64)?;
+    let head = head_of(alloc, AnswerOf::Account(account), body.len() as u64)?;
     Ok(joined(alloc, head.get().as_bytes(), body, b"")?)
 }
 
@@ -40,8 +50,7 @@ fn refusal_reply(alloc: Global, fault: Fault) -> Result<Vec<u8>, Memory>
 {
     let body = refusal_body(alloc, &fault)?;
     let body = body.get().as_bytes();
-    let answer: Answer = AnswerOf::Refused(fault);
-    let head = reply_head(alloc, &answer, body.len() as u64)?;
+    let head = head_of(alloc, AnswerOf::Refused(fault), body.len() as u64)?;
     Ok(joined(alloc, head.get().as_bytes(), body, b"")?)
 }
 
@@ -55,9 +64,9 @@ fn authorize_reply(
     ensures { IfOk result (λ v. (told : TheAnswer (List ℕ)) × Authorizes settings.now words.now call.now told × (v.items ≡ reply_of told)) }
 {
     match authorize(alloc, settings, words, call) {
-        Ok(account) => account_reply(alloc, account),
+        Ok(account) => Ok(account_reply(alloc, account)?),
         Err(Or::Memory) => Err(Memory),
-        Err(Or::Fault(fault)) => refusal_reply(alloc, fault),
+        Err(Or::Fault(fault)) => Ok(refusal_reply(alloc, fault)?),
     }
 }
 

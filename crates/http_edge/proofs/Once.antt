@@ -44,7 +44,7 @@ one_head bytes h k first second = (request_unique bytes h k [] [] first.0 second
 -- ---- routes
 
 -- one call is served
-served_name : (n : CallName) → serves n ≡ true → n ≡ AuthorizeAccount
+pub served_name : (n : CallName) → serves n ≡ true → n ≡ AuthorizeAccount
 served_name AuthorizeAccount served = refl
 served_name other served = absurd (false≢true served)
 
