@@ -1,11 +1,8 @@
 -- Capabilities by their names.
-use Rattle.std.proofs.Common.{◌≡◌, ℕ, suc, ◌+◌, ◌<◌, ◌≤◌, ◌⊎◌, inl, inr, Bool, true, false, cond, List, [], ◌∷◌, ◌++◌, length, map, take, filter, get_or, Option, Some, None, slice_get, refl, sym, ap, ◌∙◌, Bor, arith}
+use Rattle.std.proofs.Common.{◌≡◌, ℕ, ◌<◌, ◌≤◌, ◌⊎◌, inl, inr, List, [], length, get_or, sym, ap, ◌∙◌, Bor, arith}
 use Rattle.std.proofs.lemmas.Bool.{cases_lt}
-use Rattle.std.proofs.lemmas.List.{get_or-map, length-map, append-nil}
-use Rattle.std.proofs.lemmas.List.Elements.{filter-append}
+use Rattle.std.proofs.lemmas.List.{get_or-map, length-map}
 use Rattle.std.proofs.lemmas.Option.{slice_get_past, none-some}
-use Rattle.std.proofs.Math.Seq.{take-suc}
-use Rattle.serde_json.specs.Data.{Data, string}
 use Rattle.rule_table.specs.declared.cap.Cap.{Cap}
 use Rattle.rule_table.specs.Cap.{cap_order, cap_names, cap_place, cap_there}
 use Rattle.rule_table.specs.Rows.{texts}

@@ -1,6 +1,6 @@
 -- An account has no float.
 use Rattle.std.proofs.Common.{◌≡◌, ◌==◌, ℕ, true, false, cond, List, [], ◌∷◌, length, map, filter, Option, Some, None, refl}
-use Rattle.serde_json.specs.Data.{Data, null, string, array}
+use Rattle.serde_json.specs.Data.{null, string, array}
 use Rattle.serde_json.specs.View.{items_of}
 use Rattle.serde_json.specs.Written.{has_float}
 use Rattle.rule_table.specs.declared.cap.Cap.{Cap}

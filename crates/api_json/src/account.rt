@@ -25,7 +25,11 @@ fn name_or_null(alloc: Global, name: &Option<BucketName>) -> Result<Value, Memor
     }
 }
 
-fn put_urls(map: &mut Map<String, Value>, alloc: Global, account: &ShownAccount) -> Result<(), Memory>
+fn put_urls(
+    map: &mut Map<String, Value>,
+    alloc: Global,
+    account: &ShownAccount,
+) -> Result<(), Memory>
     ensures { OnOk result (members_view map.new.entries ≡ with_urls account.now (members_view map.old.entries)) }
 {
     put_text(map, alloc, "apiUrl", account.url.get())?;
@@ -34,12 +38,31 @@ fn put_urls(map: &mut Map<String, Value>, alloc: Global, account: &ShownAccount)
     Ok(())
 }
 
-fn put_limits(map: &mut Map<String, Value>, alloc: Global, account: &ShownAccount) -> Result<(), Memory>
+fn put_limits(
+    map: &mut Map<String, Value>,
+    alloc: Global,
+    account: &ShownAccount,
+) -> Result<(), Memory>
     ensures { OnOk result (members_view map.new.entries ≡ with_limits account.now (members_view map.old.entries)) }
 {
-    put(map, alloc, "bucketId", first_bucket(alloc, account.buckets.get())?)?;
-    put(map, alloc, "bucketName", name_or_null(alloc, &account.bucket_name)?)?;
-    put(map, alloc, "namePrefix", text_unless_empty(alloc, account.prefix.get())?)?;
+    put(
+        map,
+        alloc,
+        "bucketId",
+        first_bucket(alloc, account.buckets.get())?,
+    )?;
+    put(
+        map,
+        alloc,
+        "bucketName",
+        name_or_null(alloc, &account.bucket_name)?,
+    )?;
+    put(
+        map,
+        alloc,
+        "namePrefix",
+        text_unless_empty(alloc, account.prefix.get())?,
+    )?;
     Ok(())
 }
 
@@ -49,7 +72,12 @@ fn storage(alloc: Global, account: &ShownAccount) -> Result<Value, Memory>
     let mut map = Map::new(alloc);
     put_urls(&mut map, alloc, account)?;
     put_limits(&mut map, alloc, account)?;
-    put(&mut map, alloc, "capabilities", cap_list(alloc, &account.caps)?)?;
+    put(
+        &mut map,
+        alloc,
+        "capabilities",
+        cap_list(alloc, &account.caps)?,
+    )?;
     put_number(&mut map, alloc, "absoluteMinimumPartSize", account.part_min)?;
     put_number(&mut map, alloc, "recommendedPartSize", 100_000_000)?;
     Ok(Value::Object(map))

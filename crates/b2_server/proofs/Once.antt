@@ -14,7 +14,7 @@ use Rattle.b2_model.specs.declared.shown.AnswerOf.{AnswerOf}
 use Rattle.http_edge.specs.Reply.{reply_of}
 use Rattle.http_edge.specs.Received.{Received, unfinished, malformed, whole}
 use Rattle.http_edge.proofs.Once.{one_received}
-use Rattle.api_json.specs.Call.{authorization_of, GivesPair, HasCredentials, IsCall}
+use Rattle.api_json.specs.Call.{GivesPair, HasCredentials, IsCall}
 use Rattle.api_json.proofs.Pairs.{one_pair}
 use Rattle.b2_server.specs.Store.{fixed_store}
 use Rattle.b2_server.specs.Answer.{MachineAnswers, AnswersTo, IsAnswered}

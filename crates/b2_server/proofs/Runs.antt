@@ -1,5 +1,5 @@
 -- What a run of the program comes to.
-use Rattle.std.proofs.Common.{◌≡◌, ℕ, List, [], ◌∷◌, map, Option, Some, IfSome, refl, sym, ap, ◌∙◌, subst, Bor, Bool, IsTrue, ◌↔◌, ◌≤◌, ◌<◌, length, get_or, arith}
+use Rattle.std.proofs.Common.{◌≡◌, ℕ, List, [], ◌∷◌, Option, Some, IfSome, sym, ap, ◌∙◌, subst, Bool, IsTrue, ◌↔◌, ◌≤◌, ◌<◌, length, get_or, arith}
 use Rattle.std.specs.Str.{bytes_eq}
 use Rattle.std.proofs.lemmas.Slice.Eq.{bytes_eq-Decides}
 use Rattle.outside_traits.specs.Causes.{Rose}
@@ -13,7 +13,7 @@ use Rattle.b2_server.specs.Run.{shown, IsOutput, SourceCause, SinkCause, IsNotUs
 use Rattle.b2_server.specs.declared.run.Status.{Status}
 use Rattle.b2_server.specs.declared.run.Status.TheVariants as status
 
-pub output_says : (script : Script) (lines : List Line) (settings : Settings) (reply : Option (List ℕ)) (output : List ℕ) → Says script lines → settings ≡ fixed_store
+output_says : (script : Script) (lines : List Line) (settings : Settings) (reply : Option (List ℕ)) (output : List ℕ) → Says script lines → settings ≡ fixed_store
     → Replies settings script.words.items script.head.items reply → output ≡ shown script.conn reply → IsOutput lines output
 output_says script lines settings reply output says same (answer, answered, replied) is =
     let by_store : Settings → Type 0 = λ s. IsAnswered s (reading_of lines) script.words.items script.head.items answer in
@@ -23,6 +23,14 @@ output_says script lines settings reply output says same (answer, answered, repl
       subst by_head says.head (subst by_words says.words (subst by_store same (answered (reading_of lines)))),
       is ∙ ap (λ c. shown c reply) says.conn ∙ ap (shown (conn_of lines)) replied,
     )
+
+-- the same, where words and head are lent
+pub lent_says : (script : Script) (lines : List Line) (settings : Settings) (words bytes : List ℕ) (reply : Option (List ℕ)) (output : List ℕ) → Says script lines → settings ≡ fixed_store
+    → words ≡ script.words.items → bytes ≡ script.head.items → Replies settings words bytes reply → output ≡ shown script.conn reply → IsOutput lines output
+lent_says script lines settings words bytes reply output says same is_words is_bytes replies is =
+    let by_words : List ℕ → Type 0 = λ ws. Replies settings ws bytes reply in
+    let by_bytes : List ℕ → Type 0 = λ bs. Replies settings script.words.items bs reply in
+    output_says script lines settings reply output says same (subst by_bytes is_bytes (subst by_words is_words replies)) is
 
 -- no fault is left where no count rose and the script is in the grammar
 pub completes : (result : Status) (source_before source_now sink_before sink_now : ℕ) → IsNotUsage result → IsNotBadLine result

@@ -1,6 +1,6 @@
 //! First and last rows, near misses, and sets.
 
-use crate::{CallName, Cap, CapSet, FaultKind, FileKind, calls, caps, faults, types};
+use crate::{CallName, Cap, CapSet, FaultKind, FileKind, calls, caps, every_cap, faults, types};
 use std::test::Fail;
 
 #[test]
@@ -31,5 +31,16 @@ fn sets(rt: HostRuntime) -> Result<(), Fail> {
     assert!(rt; none.subset(&one) && one.subset(&two));
     assert!(rt; !two.subset(&one));
     assert_eq!(rt; one.with(Cap::ListFiles), one);
+    Ok(())
+}
+
+#[test]
+fn full_set(rt: HostRuntime) -> Result<(), Fail> {
+    let mut set = CapSet::none();
+    for cap in every_cap() {
+        assert!(rt; CapSet::all().has(cap));
+        set = set.with(cap);
+    }
+    assert_eq!(rt; set, CapSet::all());
     Ok(())
 }

@@ -1,4 +1,4 @@
-use Rattle.std.proofs.Common.{◌∙◌, sym, refl}
+use Rattle.std.proofs.Common.{◌∙◌, refl}
 use Rattle.std.proofs.lemmas.Bool.{false≢true}
 use Rattle.b2_server.proofs.FirstPath.{gives_account, same_account, refuses_pair, refuses_none}
 use Rattle.b2_server.proofs.authorize.authorize.Goals as goal

@@ -1,6 +1,4 @@
-use Rattle.std.proofs.Common.{subst, sym}
 use Rattle.b2_model.specs.declared.shown.AnswerOf.TheVariants.{Refused}
-use Rattle.b2_server.specs.Answer.{Authorizes}
 use Rattle.b2_server.proofs.reply.authorize_reply.Goals as goal
 
 pub returns-in_ok-refusal_reply-in-Err-Fault : goal.returns-in_ok-refusal_reply-in-Err-Fault

@@ -1,4 +1,3 @@
-use Rattle.std.proofs.Common.{◌≡◌, true, ℕ, List, Some}
 use Rattle.b2_server.proofs.Replies.{refused_replies, call_replies}
 use Rattle.b2_server.proofs.reply.reply.Goals as goal
 
