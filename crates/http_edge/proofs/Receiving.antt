@@ -1,5 +1,5 @@
 -- What the bytes of a connection come to, from what their head is read as.
-use Rattle.std.proofs.Common.{◌≡◌, ℕ, ◌<◌, ◌≤◌, nat_le, true, false, cond, List, length, take, drop, inl, inr, refl, sym, ap, ◌∙◌, subst}
+use Rattle.std.proofs.Common.{◌≡◌, ℕ, ◌<◌, ◌≤◌, List, length, take, drop, inl, inr, refl, sym, ap, ◌∙◌, subst}
 use Rattle.std.proofs.lemmas.Bool.{le-leb, lt-leb}
 use Rattle.httparse.specs.Grammar.{RequestHead}
 use Rattle.rule_table.specs.declared.fault.FaultKind.{FaultKind}
@@ -9,7 +9,7 @@ use Rattle.http_edge.specs.declared.cut.Cut.TheVariants.{Head}
 use Rattle.http_edge.specs.declared.route.Route.{Route}
 use Rattle.http_edge.specs.Cut.{IsCut}
 use Rattle.http_edge.specs.Route.{IsRouted, IsRouteFault}
-use Rattle.http_edge.specs.Request.{IsHead, IsRequest, IsHeadFault, HasLength, request_of, path_of, headers_of, lengths, told_length}
+use Rattle.http_edge.specs.Request.{IsRequest, IsHeadFault, HasLength, request_of, path_of, headers_of, lengths, told_length}
 use Rattle.http_edge.specs.Received.{Received, unfinished, malformed, whole, with_body, measured, IsReceived}
 use Rattle.http_edge.proofs.Once.{one_route, routed_or_not}
 
@@ -49,4 +49,3 @@ pub came_lost : (bytes : List ℕ) (end : ℕ) (r : Request) (kind : FaultKind) 
 came_lost bytes end r kind cut (h, head, is, has) fault =
     let P : Request → Type 0 = λ x. IsRouteFault x.method x.path kind in
     (Head end, cut, inr (h, head, inl (kind, subst P is fault, refl)))
-

@@ -15,4 +15,8 @@ pub use reply::reply_head;
 pub use route::{Route, route_of};
 
 #[cfg(test)]
+mod head_tests;
+#[cfg(test)]
+mod reply_tests;
+#[cfg(test)]
 mod tests;

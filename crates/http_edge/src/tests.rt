@@ -1,7 +1,7 @@
-//! Heads and where they end.
+//! Where heads end, and which calls they are for.
 
-use crate::route::named_by;
-use crate::{Cut, MOST_HEAD, cut_head, route_of};
+use crate::route::{named_by, named_for};
+use crate::{Cut, MOST_HEAD, cut_head};
 use rule_table::{CallName, FaultKind};
 use std::alloc::Global;
 use std::test::Fail;
@@ -64,7 +64,7 @@ fn name_of(path: &str) -> Option<CallName> {
 
 // What a request with this method and path is refused for.
 fn fault_of(method: &str, path: &str) -> Option<FaultKind> {
-    match route_of(method.as_bytes(), path.as_bytes()) {
+    match named_for(method.as_bytes(), path.as_bytes()) {
         Ok(_) => None,
         Err(kind) => Some(kind),
     }
