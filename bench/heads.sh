@@ -46,11 +46,12 @@ fn lines(alloc: Global, size: usize) -> Option<String> {
     Some(text)
 }
 
-fn ours(bytes: &[u8]) -> usize {
+fn ours(alloc: Global, bytes: &[u8]) -> usize {
     let Cut::Head(end) = cut_head(bytes) else { return 0; };
     let Some(front) = bytes.get(..end) else { return 0; };
-    let Some(found) = read_head(front) else { return 0; };
-    match route_of(found.method, found.path) {
+    if front.len() > 16_384 { return 0; }
+    let Ok(request) = read_head(alloc, front) else { return 0; };
+    match route_of(alloc, &request) {
         Ok(_) => end,
         Err(_) => 0,
     }
@@ -82,7 +83,7 @@ fn work(alloc: Global, what: &str, size: usize, times: u64) -> Option<usize> {
     let mut done = 1usize;
     for _ in 0..times {
         let end = match what {
-            "ours" => ours(bytes),
+            "ours" => ours(alloc, bytes),
             "theirs" => theirs(bytes),
             _ => pieces(bytes),
         };

@@ -32,6 +32,23 @@ fn ends_of_heads(rt: HostRuntime) -> Result<(), Fail> {
     Ok(())
 }
 
+// A head that comes byte by byte is cut where it is whole, also between a CR and its LF.
+#[test]
+fn pieces(rt: HostRuntime) -> Result<(), Fail> {
+    let bytes = b"GET /b2api/v3/b2_authorize_account HTTP/1.1\r\nA: b\r\n\r\nbody".as_slice();
+    let whole = bytes.len() - 4;
+    for came in 0..bytes.len() {
+        let cut = cut_head(&bytes[..came]);
+        let want = if came < whole {
+            Cut::NotYet
+        } else {
+            Cut::Head(whole)
+        };
+        assert_eq!(rt; cut, want, "{came}");
+    }
+    Ok(())
+}
+
 // So many letters, and an empty line behind them.
 fn long_head(alloc: Global, letters: usize) -> Result<Vec<u8>, Fail> {
     let mut head = Vec::new(alloc);
@@ -113,6 +130,25 @@ fn paths(rt: HostRuntime) -> Result<(), Fail> {
         ("/file/b/d/n", CallName::DownloadFileByName),
     ] {
         assert_eq!(rt; name_of(path), Some(name), "{path}");
+    }
+    Ok(())
+}
+
+// The length of a file's name in a path is not the route's to judge, nor are its escapes.
+#[test]
+fn names_in_paths(rt: HostRuntime) -> Result<(), Fail> {
+    let alloc = rt.alloc();
+    let mut path = String::from_str(alloc, "/file/b/")?;
+    for _ in 0..1_025 {
+        path.push_str("n")?;
+    }
+    for path in [
+        path.as_str(),
+        "/file/b/a%2",
+        "/file/b/a+b%20c",
+        "/file/b/a%7Fb",
+    ] {
+        assert_eq!(rt; name_of(path), Some(CallName::DownloadFileByName), "{path}");
     }
     Ok(())
 }
