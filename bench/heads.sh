@@ -4,17 +4,8 @@
 # each. A copy of the repository gets a program of its own for it. Run it by hand behind
 # `rt ci`, on a machine that does nothing else; it takes a minute or two.
 set -e
-cd "$(dirname "$0")/.."
-folder=$(mktemp -d)
-trap 'rm -rf "$folder"' EXIT
-cp -r crates crates.txt HANDLES "$folder"
-cd "$folder"
-rm -rf crates/*/must-fail
-rt new crates/heads_bench start_io > /dev/null
-echo 'heads_bench: b2_base rule_table b2_model http_edge httparse' >> crates.txt
-rm -rf crates/heads_bench/src crates/heads_bench/specs crates/heads_bench/proofs
-mkdir crates/heads_bench/src
-cat > crates/heads_bench/src/main.rt <<'RATTLE'
+. "$(dirname "$0")/program.sh"
+make_program heads_bench 'b2_base rule_table b2_model http_edge httparse' <<'RATTLE'
 //! Reads one head so many times over.
 #![tactic(auto)]
 
@@ -94,43 +85,18 @@ fn work(alloc: Global, what: &str, size: usize, times: u64) -> Option<usize> {
     }
     Some(done)
 }
-
-fn main(rt: HostRuntime) -> ExitCode {
-    let Ok(args) = env::args(&rt) else { return ExitCode::from(1); };
-    let mut words = args.skip(1);
-    let (Some(what), Some(size), Some(times)) = (words.next(), words.next(), words.next()) else {
-        return ExitCode::from(1);
-    };
-    let (Ok(size), Ok(times)) = (size.parse::<usize>(), times.parse::<u64>()) else { return ExitCode::from(1); };
-    match work(rt.alloc(), what.as_str(), size, times) {
-        Some(_) => ExitCode::from(0),
-        None => ExitCode::from(2),
-    }
-}
 RATTLE
-(cd crates/heads_bench && rt run -- ours 400 1 > ../../built.log 2>&1) || { cat built.log; exit 1; }
-python3 - crates/heads_bench/out/heads_bench <<'PYTHON'
-import os, subprocess, sys, time
+PYTHONPATH=$here python3 - "$program" <<'PYTHON'
+import sys
+from seconds import each
 
-program = os.path.abspath(sys.argv[1])
+program = sys.argv[1]
 LONGEST = 16_384
 
-def seconds(what, size, times):
-    best = None
-    for _ in range(5):
-        start = time.perf_counter()
-        assert subprocess.run([program, what, str(size), str(times)]).returncode == 0
-        taken = time.perf_counter() - start
-        best = taken if best is None else min(best, taken)
-    return best
-
-def each(what, size, times):
-    return (seconds(what, size, times) - seconds(what, size, 0)) / times
-
-ours, theirs = (each(what, 400, 200_000) * 1e9 for what in ("ours", "theirs"))
+ours, theirs = (each(program, what, 400, 200_000) * 1e9 for what in ("ours", "theirs"))
 print("a head of 400 bytes: %.0f ns, the port's own read %.0f ns: %.2f times" % (ours, theirs, ours / theirs))
 for what, told in (("pieces", "one long line"), ("lines", "lines of one letter")):
-    print("%d bytes of %s, byte by byte and nothing kept between them: %.0f ms" % (LONGEST, told, each(what, LONGEST, 10) * 1e3))
+    print("%d bytes of %s, byte by byte and nothing kept between them: %.0f ms" % (LONGEST, told, each(program, what, LONGEST, 10) * 1e3))
 print("bytes looked at: at most %d, the square of the longest head is %d" % (LONGEST * (LONGEST + 1) // 2, LONGEST**2))
 assert ours <= 4 * theirs, "more than 4 times the port's own"
 PYTHON

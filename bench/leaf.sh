@@ -4,17 +4,8 @@
 # for it. Run it by hand behind `rt ci`, on a machine that does nothing
 # else; it takes some minutes.
 set -e
-cd "$(dirname "$0")/.."
-folder=$(mktemp -d)
-trap 'rm -rf "$folder"' EXIT
-cp -r crates crates.txt HANDLES "$folder"
-cd "$folder"
-rm -rf crates/*/must-fail
-rt new crates/leaf_bench start_io > /dev/null
-echo 'leaf_bench: b2_base name_rules json_shape serde_json json' >> crates.txt
-rm -rf crates/leaf_bench/src crates/leaf_bench/specs crates/leaf_bench/proofs
-mkdir crates/leaf_bench/src
-cat > crates/leaf_bench/src/main.rt <<'RATTLE'
+. "$(dirname "$0")/program.sh"
+make_program leaf_bench 'b2_base name_rules json_shape serde_json json' <<'RATTLE'
 //! Does one call so many times over.
 #![tactic(auto)]
 
@@ -69,39 +60,16 @@ fn work(alloc: Global, what: &str, size: usize, times: u64) -> Option<usize> {
     }
     Some(done)
 }
-
-fn main(rt: HostRuntime) -> ExitCode {
-    let Ok(args) = env::args(&rt) else { return ExitCode::from(1); };
-    let mut words = args.skip(1);
-    let (Some(what), Some(size), Some(times)) = (words.next(), words.next(), words.next()) else {
-        return ExitCode::from(1);
-    };
-    let (Ok(size), Ok(times)) = (size.parse::<usize>(), times.parse::<u64>()) else { return ExitCode::from(1); };
-    match work(rt.alloc(), what.as_str(), size, times) {
-        Some(_) => ExitCode::from(0),
-        None => ExitCode::from(2),
-    }
-}
 RATTLE
-(cd crates/leaf_bench && rt run -- object 1024 1 > ../../built.log 2>&1) || { cat built.log; exit 1; }
-python3 - crates/leaf_bench/out/leaf_bench <<'PYTHON'
-import os, subprocess, sys, time
+PYTHONPATH=$here python3 - "$program" <<'PYTHON'
+import sys
+from seconds import each
 
-program = os.path.abspath(sys.argv[1])
+program = sys.argv[1]
 MIB = 1 << 20
 
-def seconds(what, size, times):
-    best = None
-    for _ in range(5):
-        start = time.perf_counter()
-        assert subprocess.run([program, what, str(size), str(times)]).returncode == 0
-        taken = time.perf_counter() - start
-        best = taken if best is None else min(best, taken)
-    return best
-
 def rate(what, size):
-    times = 32 * MIB // size
-    return 32 / (seconds(what, size, times) - seconds(what, size, 0))
+    return size / MIB / each(program, what, size, 32 * MIB // size)
 
 print("call          1 KiB MB/s   1 MiB MB/s")
 rates = {}

@@ -1,7 +1,7 @@
 //! Heads and what they are read as, each with the rule that it comes from.
 
 use crate::length::body_length;
-use crate::read_head;
+use crate::{read_head, route_of};
 use b2_base::Or;
 use b2_model::{Fault, Request};
 use rule_table::{CallName, FaultKind};
@@ -245,6 +245,41 @@ fn lengths_of_uploads(rt: HostRuntime) -> Result<(), Fail> {
         for name in [CallName::UploadFile, CallName::UploadPart] {
             assert_eq!(rt; length_of(alloc, name, fields)?, want, "{fields}");
         }
+    }
+    Ok(())
+}
+
+// The call of the request with this request line.
+fn name_of(alloc: Global, line: &str) -> Result<Option<CallName>, Fail> {
+    let head = format!(in alloc; "{line}\r\n\r\n")?;
+    if head.len() > 16_384 {
+        return Err(Fail::from("too long"));
+    }
+    let Ok(request) = read_head(alloc, head.as_bytes()) else {
+        return Err(Fail::from("no head"));
+    };
+    match route_of(alloc, &request) {
+        Ok(route) => Ok(Some(route.name)),
+        Err(_) => Ok(None),
+    }
+}
+
+#[test]
+fn routes(rt: HostRuntime) -> Result<(), Fail> {
+    let alloc = rt.alloc();
+    for (line, want) in [
+        (
+            "GET /b2api/v3/b2_authorize_account?x HTTP/1.1",
+            Some(CallName::AuthorizeAccount),
+        ),
+        (
+            "POST /b2api/v3/b2_authorize_account HTTP/1.0",
+            Some(CallName::AuthorizeAccount),
+        ),
+        ("GET /b2api/v3/b2_authorize_account/ HTTP/1.1", None),
+        ("HEAD /b2api/v3/b2_authorize_account HTTP/1.1", None),
+    ] {
+        assert_eq!(rt; name_of(alloc, line)?, want, "{line}");
     }
     Ok(())
 }

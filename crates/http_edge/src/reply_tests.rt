@@ -55,6 +55,9 @@ fn contents(rt: HostRuntime) -> Result<(), Fail> {
         len: 2,
         part: true,
     };
+    if part.file.length != 5 {
+        return Err(Fail::from("another length"));
+    }
     assert_eq!(rt; content_head(alloc, &part, 2)?.get(), PART);
     Ok(())
 }
