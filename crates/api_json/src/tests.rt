@@ -1,6 +1,10 @@
-//! Values of Basic headers.
+//! Values of Basic headers, and bodies.
 
-use crate::basic;
+use crate::{account_body, basic, refusal_body};
+use b2_base::{BucketNum, List, Moment, Text};
+use b2_model::{Fault, ShownAccount};
+use name_rules::bucket_name;
+use rule_table::{Cap, CapSet, FaultKind};
 use std::alloc::Global;
 use std::test::Fail;
 
@@ -45,5 +49,43 @@ fn pairs(rt: HostRuntime) -> Result<(), Fail> {
     for value in none {
         assert!(rt; shown(alloc, value)?.is_none());
     }
+    Ok(())
+}
+
+const LIMITED: &str =
+    "{\"accountId\":\"a1b2c3d4e5f6\",\"apiInfo\":{\"storageApi\":{\"absoluteMinimumPartSize\":10,\"apiUrl\":\"http://127.0.0.1:8080\",\"bucketId\":\"000000000000000000000001\",\"bucketName\":\"photos-1\",\"capabilities\":[\"listFiles\",\"readFiles\"],\"downloadUrl\":\"http://127.0.0.1:8080\",\"infoType\":\"storageApi\",\"namePrefix\":\"logs/\",\"recommendedPartSize\":100000000}},\"applicationKeyExpirationTimestamp\":2000,\"authorizationToken\":\"3_\\\"\"}";
+
+// The account of a key that is limited to a bucket and a prefix, and ends.
+#[test]
+fn limited_account(rt: HostRuntime) -> Result<(), Fail> {
+    let alloc = rt.alloc();
+    let bucket = BucketNum::new(1).ok_or("a bucket")?;
+    let Ok(name) = bucket_name(alloc, b"photos-1") else {
+        return Err(Fail::from("a name"));
+    };
+    let account = ShownAccount {
+        account: Text::copy(alloc, "a1b2c3d4e5f6")?,
+        token: Text::copy(alloc, "3_\"")?,
+        url: Text::copy(alloc, "http://127.0.0.1:8080")?,
+        part_min: 10,
+        caps: CapSet::none().with(Cap::ReadFiles).with(Cap::ListFiles),
+        buckets: List::of(vec![in alloc; bucket]?),
+        bucket_name: Some(name),
+        prefix: Text::copy(alloc, "logs/")?,
+        end: Some(Moment::from_reading(2_000)),
+    };
+    assert_eq!(rt; account_body(alloc, &account)?.get(), LIMITED);
+    Ok(())
+}
+
+#[test]
+fn refusal(rt: HostRuntime) -> Result<(), Fail> {
+    let alloc = rt.alloc();
+    let mut fault = Fault::plain(alloc, FaultKind::Conflict);
+    fault.number = 2;
+    assert_eq!(rt;
+        refusal_body(alloc, &fault)?.get(),
+        "{\"code\":\"conflict\",\"message\":\"revision differs: 2\",\"status\":409}"
+    );
     Ok(())
 }
