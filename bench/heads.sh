@@ -1,15 +1,17 @@
 #!/bin/sh
-# Nanoseconds that `cut_head`, `read_head` and `route_of` take together for a head of 400 bytes beside the
-# port's own read of it, and milliseconds that 16,384 bytes take that come one by one and are cut anew at
-# each. A copy of the repository gets a program of its own for it. Run it by hand behind
-# `rt ci`, on a machine that does nothing else; it takes a minute or two.
+# Nanoseconds that `cut_head`, `read_head` and `route_of` take together for a head of 400 bytes beside what
+# the ports take to read it, into places alone (`httparse`) and into a map of headers (`http_header` too),
+# and milliseconds that 16,384 bytes take that come one by one and are cut anew at each. A copy of the
+# repository gets a program of its own for it. Run it by hand behind `rt ci`, on a machine that does nothing
+# else; it takes a minute or two.
 set -e
 . "$(dirname "$0")/program.sh"
-make_program heads_bench 'b2_base rule_table b2_model http_edge httparse' <<'RATTLE'
+make_program heads_bench 'b2_base rule_table b2_model http_edge httparse http_header' <<'RATTLE'
 //! Reads one head so many times over.
 #![tactic(auto)]
 
 use http_edge::{Cut, cut_head, read_head, route_of};
+use http_header::{HeaderMap, HeaderName, HeaderValue};
 use httparse::Status;
 use httparse::spans::{EMPTY_HEADER_SPAN, parse_request};
 use std::alloc::Global;
@@ -56,6 +58,26 @@ fn theirs(bytes: &[u8]) -> usize {
     }
 }
 
+// A header in the map, from the bytes of its name and its value.
+fn add(alloc: Global, map: &mut HeaderMap<HeaderValue>, name: &[u8], value: &[u8]) -> Option<()> {
+    let name = HeaderName::from_bytes(alloc, name).ok()?;
+    let value = HeaderValue::from_bytes(alloc, value).ok()?;
+    map.append(name, value).ok()?;
+    Some(())
+}
+
+fn into_map(alloc: Global, bytes: &[u8]) -> Option<usize> {
+    let mut room = [EMPTY_HEADER_SPAN; 64];
+    let Ok(Status::Complete(spans)) = parse_request(bytes, &mut room) else { return None; };
+    let mut map = HeaderMap::new(alloc);
+    for header in room.iter().take(spans.headers) {
+        let name = bytes.get(header.name.start..header.name.end)?;
+        let value = bytes.get(header.value.start..header.value.end)?;
+        add(alloc, &mut map, name, value)?;
+    }
+    Some(spans.len)
+}
+
 // The bytes that are cut, each front of them in turn.
 fn pieces(bytes: &[u8]) -> usize {
     let mut end = 0usize;
@@ -76,6 +98,7 @@ fn work(alloc: Global, what: &str, size: usize, times: u64) -> Option<usize> {
         let end = match what {
             "ours" => ours(alloc, bytes),
             "theirs" => theirs(bytes),
+            "map" => into_map(alloc, bytes).unwrap_or(0),
             _ => pieces(bytes),
         };
         if end == 0 {
@@ -93,10 +116,12 @@ from seconds import each
 program = sys.argv[1]
 LONGEST = 16_384
 
-ours, theirs = (each(program, what, 400, 200_000) * 1e9 for what in ("ours", "theirs"))
-print("a head of 400 bytes: %.0f ns, the port's own read %.0f ns: %.2f times" % (ours, theirs, ours / theirs))
+ours, places, into_map = (each(program, what, 400, 200_000) * 1e9 for what in ("ours", "theirs", "map"))
+print("a head of 400 bytes: %.0f ns" % ours)
+print("the ports' own read into a map: %.0f ns, ours takes %.2f times that" % (into_map, ours / into_map))
+print("the parser's own read into places: %.0f ns, ours takes %.2f times that" % (places, ours / places))
 for what, told in (("pieces", "one long line"), ("lines", "lines of one letter")):
     print("%d bytes of %s, byte by byte and nothing kept between them: %.0f ms" % (LONGEST, told, each(program, what, LONGEST, 10) * 1e3))
 print("bytes looked at: at most %d, the square of the longest head is %d" % (LONGEST * (LONGEST + 1) // 2, LONGEST**2))
-assert ours <= 4 * theirs, "more than 4 times the port's own"
+assert ours <= 4 * into_map, "more than 4 times the ports' own"
 PYTHON

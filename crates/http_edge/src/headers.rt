@@ -1,7 +1,7 @@
 //! The headers of a request.
 
-ghost use Rattle.std.specs.Prelude.{◌≡◌, ◌+◌, ◌≤◌, ◌<◌, length, map, All, IfOk, OnOk};
-ghost use Rattle.httparse.specs.Spans.{IsHeaderWithin, header_bytes};
+ghost use Rattle.std.specs.Prelude.{◌≡◌, [], ◌+◌, ◌≤◌, ◌<◌, length, map, All, IfOk, OnOk};
+ghost use Rattle.httparse.specs.Spans.{IsHeaderWithin, IsWithin, header_bytes, span_bytes};
 ghost use Rattle.http_header.specs.FieldValue.{plain_value};
 ghost use Rattle.http_header.specs.HeaderMap.{append, value_count};
 ghost use Rattle.http_header.specs.Token.{lowercase, IsToken, AllPass, is_value_byte};
@@ -9,10 +9,9 @@ ghost use Rattle.http_edge.specs.Request.{headers_by};
 ghost use Rattle.http_edge.specs.Headers.{IsClean};
 
 use b2_base::Memory;
-use http_header::{
-    HeaderMap, HeaderMapError, HeaderName, HeaderNameError, HeaderValue, HeaderValueError,
-};
-use httparse::spans::HeaderSpan;
+use bytes::Bytes;
+use http_header::{HeaderMap, HeaderMapError, HeaderName, HeaderNameError, HeaderValue};
+use httparse::spans::{HeaderSpan, Span};
 use std::alloc::Global;
 
 fn header_name(alloc: Global, name: &[u8]) -> Result<HeaderName, Memory>
@@ -27,14 +26,25 @@ fn header_name(alloc: Global, name: &[u8]) -> Result<HeaderName, Memory>
     }
 }
 
-fn header_value(alloc: Global, value: &[u8]) -> Result<HeaderValue, Memory>
-    requires { AllPass is_value_byte value.now }
-    ensures { IfOk result (λ v. v ≡ plain_value value.now) }
+// The value at this place, which shares its bytes.
+fn header_value(bytes: &Bytes, place: Span) -> Result<HeaderValue, Memory>
+    requires within { IsWithin (length bytes.now) place }
+    requires clean { AllPass is_value_byte (span_bytes bytes.now place) }
+    ensures { IfOk result (λ v. v ≡ plain_value (span_bytes bytes.now place)) }
 {
-    match HeaderValue::from_bytes(alloc, value) {
-        Ok(value) => Ok(value),
-        Err(HeaderValueError::OutOfMemory) => Err(Memory),
-        Err(HeaderValueError::Invalid) => unreachable!(),
+    let value = bytes.slice(place.start..place.end)?;
+    Ok(HeaderValue::from_known_valid(value))
+}
+
+// An empty map with room for so many names.
+fn empty_map(alloc: Global, names: usize) -> Result<HeaderMap<HeaderValue>, Memory>
+    requires { names ≤ 64 }
+    ensures { IfOk result (λ m. m ≡ []) }
+{
+    match HeaderMap::with_capacity(alloc, names) {
+        Ok(map) => Ok(map),
+        Err(HeaderMapError::OutOfMemory) => Err(Memory),
+        Err(HeaderMapError::MaxSizeReached) => unreachable!(),
     }
 }
 
@@ -54,7 +64,7 @@ fn add_header(
     }
 }
 
-/// The headers at these places of the bytes.
+/// The headers at these places of the bytes. All values share one copy of them.
 pub(crate) fn header_map(
     alloc: Global,
     bytes: &[u8],
@@ -66,10 +76,11 @@ pub(crate) fn header_map(
     requires clean { All (IsClean bytes.now) spans.now }
     ensures { IfOk result (λ headers. headers ≡ headers_by (map (header_bytes bytes.now) spans.now)) }
 {
-    let mut headers = HeaderMap::new(alloc);
+    let shared = Bytes::copy_from_slice(alloc, bytes)?;
+    let mut headers = empty_map(alloc, spans.len())?;
     for span in spans {
         let name = header_name(alloc, span.name.of(bytes))?;
-        let value = header_value(alloc, span.value.of(bytes))?;
+        let value = header_value(&shared, span.value)?;
         add_header(&mut headers, name, value)?;
     }
     Ok(headers)

@@ -81,7 +81,7 @@ fn is_upload(name: CallName) -> bool
 fn least_body(name: CallName, headers: &HeaderMap<HeaderValue>) -> u64
     ensures { result ≡ least_body name headers.now }
 {
-    if is_upload(name) & has_digest_last(headers) {
+    if is_upload(name) && has_digest_last(headers) {
         DIGEST
     } else {
         0
@@ -111,7 +111,7 @@ pub(crate) fn body_length(name: CallName, headers: &HeaderMap<HeaderValue>) -> O
         return None;
     };
     let is_coded = headers.get("transfer-encoding").is_some();
-    let is_missing = is_upload(name) & headers.get("content-length").is_none();
+    let is_missing = is_upload(name) && headers.get("content-length").is_none();
     let is_low = told < least_body(name, headers);
     let is_high = most_body(name, headers) < told;
     if is_coded | is_missing | is_low | is_high {
