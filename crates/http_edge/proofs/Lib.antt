@@ -1,6 +1,7 @@
 pub mod Bools
 pub mod Ends
 pub mod Clean
+pub mod Paths
 pub mod Once
 pub mod Receiving
 pub mod Heads

@@ -6,17 +6,16 @@ use Rattle.httparse.proofs.GrammarLemmas.{request_unique}
 use Rattle.rule_table.specs.declared.call.CallName.{CallName}
 use Rattle.rule_table.specs.declared.call.CallName.TheVariants.{AuthorizeAccount}
 use Rattle.rule_table.specs.declared.fault.FaultKind.{FaultKind}
-use Rattle.b2_model.specs.declared.fault.Target.{Target}
-use Rattle.b2_model.specs.declared.fault.Target.TheVariants.{Nothing}
 use Rattle.rule_table.specs.declared.fault.FaultKind.TheVariants.{NoCall, BadMethod}
 use Rattle.http_edge.specs.declared.cut.Cut.{Cut}
 use Rattle.http_edge.specs.declared.cut.Cut.TheVariants.{Head, NotYet, TooLong}
 use Rattle.http_edge.specs.declared.route.Route.{Route}
 use Rattle.http_edge.specs.Cut.{IsCut, IsEnd}
-use Rattle.http_edge.specs.Route.{IsPathOf, IsRouted, IsRouteFault, serves, takes}
+use Rattle.http_edge.specs.Route.{IsRouted, IsRouteFault, serves, takes}
 use Rattle.http_edge.specs.Request.{IsHead, path_of}
 use Rattle.http_edge.specs.Received.{Received, measured, malformed, IsRoutedTo, IsReadAs, IsCutTo, IsReceived}
 use Rattle.http_edge.proofs.Ends.{ends_within}
+use Rattle.http_edge.proofs.Paths.{one_path}
 
 end_within : (bytes : List ℕ) (end : ℕ) → IsEnd bytes end → end ≤ length bytes
 end_within bytes end (start, line, begun) = ends_within bytes start end line
@@ -48,23 +47,13 @@ pub served_name : (n : CallName) → serves n ≡ true → n ≡ AuthorizeAccoun
 served_name AuthorizeAccount served = refl
 served_name other served = absurd (false≢true served)
 
--- its path names nothing
-names_nothing : (path : List ℕ) (n : CallName) (t : Target) → n ≡ AuthorizeAccount → IsPathOf path t n → t ≡ Nothing
-names_nothing path n t name is = let at : CallName → Type 0 = IsPathOf path t in (subst at name is).0
-
 pub one_route : (method path : List ℕ) (a b : Route) → IsRouted method path a → IsRouted method path b → a ≡ b
-one_route method path a b first second =
-    let name_a = served_name a.name first.served in
-    let name_b = served_name b.name second.served in
-    let name = name_a ∙ sym name_b in
-    let target = names_nothing path a.name a.target name_a first.path_is ∙ sym (names_nothing path b.name b.target name_b second.path_is) in
-    λ i. record { name = name i; target = target i }
+one_route method path a b first second = one_path path a b first.path_is second.path_is
 
 pub routed_or_not : (method path : List ℕ) (route : Route) (kind : FaultKind) → IsRouted method path route → IsRouteFault method path kind → ⊥
 routed_or_not method path route NoCall is none = false≢true (sym (none route is.path_is) ∙ is.served)
 routed_or_not method path route BadMethod is (other, path_is, served, refused) =
-    let name = served_name other.name served ∙ sym (served_name route.name is.served) in
-    false≢true (sym refused ∙ ap (λ n. takes n method) name ∙ is.taken)
+    let same : other ≡ route = one_path path other route path_is is.path_is in false≢true (sym refused ∙ ap (λ r. takes r.name method) same ∙ is.taken)
 routed_or_not method path route kind is none = absurd none
 
 one_fault : (method path : List ℕ) (a b : FaultKind) → IsRouteFault method path a → IsRouteFault method path b → a ≡ b

@@ -12,7 +12,7 @@ mod route;
 pub use cut::{Cut, MOST_HEAD, cut_as_it_comes, cut_head};
 pub use head::read_head;
 pub use reply::reply_head;
-pub use route::{Route, route_of};
+pub use route::{Route, one_path, route_of};
 
 #[cfg(test)]
 mod head_tests;

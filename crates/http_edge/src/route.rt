@@ -1,6 +1,6 @@
 //! Which call a request is for.
 
-ghost use Rattle.std.specs.Prelude.{◌≡◌, ◌≢◌, ◌↔◌, ◌<◌, ◌^◌, ℕ, true, IsTrue, MatchOption, MatchResult, IfOk, Some};
+ghost use Rattle.std.specs.Prelude.{◌≡◌, ◌≢◌, ◌↔◌, ◌<◌, ◌^◌, ℕ, List, true, IsTrue, MatchOption, MatchResult, IfOk, Some};
 ghost use Rattle.b2_base.specs.Failure.{IfFault};
 ghost use Rattle.rule_table.specs.declared.call.CallName.{CallName as TheName};
 ghost use Rattle.rule_table.specs.declared.call.CallName.TheVariants.{UploadFile, UploadPart, DownloadFileByName};
@@ -119,6 +119,12 @@ pub(crate) fn named_by(path: &[u8]) -> Option<Route>
         target: Target::Nothing,
     })
 }
+
+/// A path is that of one call, and names one thing.
+#[tactic(auto, using(crate::proofs::Paths::one_path))]
+pub fn one_path()
+    ensures { (path : List ℕ) (a b : TheRoute) → IsPath path a → IsPath path b → a ≡ b }
+{}
 
 // The calls that are served; any other is none yet.
 fn is_served(name: CallName) -> bool
