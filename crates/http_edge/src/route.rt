@@ -80,8 +80,7 @@ fn is_plain(name: CallName) -> bool
 }
 
 fn plain_call(path: &[u8]) -> Option<CallName>
-    ensures found { MatchOption result ((n : TheName) → is_plain n ≡ true → IsPathOf path.now Nothing n → ⊥) (λ n. (is_plain n ≡ true) × IsPathOf path.now Nothing n) }
-    ensures only { (n : TheName) → is_plain n ≡ true → IsPathOf path.now Nothing n → result ≡ Some n }
+    ensures { MatchOption result ((n : TheName) → is_plain n ≡ true → IsPathOf path.now Nothing n → ⊥) (λ n. (is_plain n ≡ true) × IsPathOf path.now Nothing n) }
 {
     let Some(text) = behind(b"/b2api/v3/", path) else {
         return None;
@@ -94,8 +93,12 @@ fn plain_call(path: &[u8]) -> Option<CallName>
 
 // What the path is, where it is that of a call.
 pub(crate) fn named_by(path: &[u8]) -> Option<Route>
-    ensures { MatchOption result ((s : TheRoute) → IsPath path.now s → ⊥) (λ r. IsPath path.now r × ((s : TheRoute) → IsPath path.now s → s.name ≡ r.name)) }
+    ensures { MatchOption result ((s : TheRoute) → IsPath path.now s → ⊥) (IsPath path.now) }
 {
+    if let Some(name) = plain_call(path) {
+        let target = Target::Nothing;
+        return Some(Route { name, target });
+    }
     if let Some(target) = upload_target(path) {
         let name = CallName::UploadFile;
         return Some(Route { name, target });
@@ -106,18 +109,10 @@ pub(crate) fn named_by(path: &[u8]) -> Option<Route>
     }
     if is_download(path) {
         let name = CallName::DownloadFileByName;
-        return Some(Route {
-            name,
-            target: Target::Nothing,
-        });
+        let target = Target::Nothing;
+        return Some(Route { name, target });
     }
-    let Some(name) = plain_call(path) else {
-        return None;
-    };
-    Some(Route {
-        name,
-        target: Target::Nothing,
-    })
+    None
 }
 
 /// A path is that of one call, and names one thing.

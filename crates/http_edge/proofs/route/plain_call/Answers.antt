@@ -4,16 +4,10 @@ use Rattle.rule_table.specs.CallName.{call_place}
 use Rattle.http_edge.proofs.Routes.{no_api_front, no_call}
 use Rattle.http_edge.proofs.route.plain_call.Goals as goal
 
-pub returns-in_default-clause-found : goal.returns-in_default-clause-found
-returns-in_default-clause-found c = no_api_front c.args.path.now (rw c.in_default.is at c.behind.ensures)
+pub returns-in_default : goal.returns-in_default
+returns-in_default c = no_api_front c.args.path.now (rw c.in_default.is at c.behind.ensures)
 
-pub returns-in_default-clause-only : goal.returns-in_default-clause-only
-returns-in_default-clause-only c = λ n plain is. absurd (no_api_front c.args.path.now (rw c.in_default.is at c.behind.ensures) n plain is)
-
-pub returns-in_default-find-clause-found : goal.returns-in_default-find-clause-found
-returns-in_default-find-clause-found c =
+pub returns-in_default-find : goal.returns-in_default-find
+returns-in_default-find c =
     let none = rw c.in_default-find.is at c.find.ensures.found in
     no_call c.args.path.now c.in-Some.text.now c.in-Some.ensures (λ e row. none e (subst (λ names. IsRow names (call_place e) c.in-Some.text.now) (sym c.calls.ensures) row))
-
-pub returns-in_default-find-clause-only : goal.returns-in_default-find-clause-only
-returns-in_default-find-clause-only c = λ n plain is. absurd (returns-in_default-find-clause-found c n plain is)
