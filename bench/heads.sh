@@ -123,5 +123,5 @@ print("the parser's own read into places: %.0f ns, ours takes %.2f times that" %
 for what, told in (("pieces", "one long line"), ("lines", "lines of one letter")):
     print("%d bytes of %s, byte by byte and nothing kept between them: %.0f ms" % (LONGEST, told, each(program, what, LONGEST, 10) * 1e3))
 print("bytes looked at: at most %d, the square of the longest head is %d" % (LONGEST * (LONGEST + 1) // 2, LONGEST**2))
-assert ours <= 4 * into_map, "more than 4 times the ports' own"
+assert ours <= 4 * places, "more than 4 times the parser's own"
 PYTHON

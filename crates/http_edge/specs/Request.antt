@@ -77,7 +77,7 @@ abbrev pub has_digest_last : Entries FieldValue → Bool
 has_digest_last headers = some_and (λ value. bytes_eq value.bytes (codes "hex_digits_at_end")) (get headers (codes "x-bz-content-sha1"))
 
 -- the least and the most bytes of a body: an upload may have 5,000,000,000 of content, and 40 hex digits
--- behind them, and the body of another call 1,048,576
+-- behind them, and a JSON body 1,048,576
 abbrev pub least_body : CallName → Entries FieldValue → ℕ
 least_body name headers = if is_upload name && has_digest_last headers then 40 else 0
 
