@@ -1,12 +1,12 @@
 -- The headers of a head are clean, and so is their number.
-use Rattle.std.proofs.Common.{◌≡◌, ℕ, ◌<◌, ◌≤◌, ◌+◌, true, false, cond, List, [], ◌∷◌, ◌++◌, length, take, map, fold, bytes_eq, refl, sym, subst, IsTrue, arith}
+use Rattle.std.proofs.Common.{◌≡◌, ℕ, ◌<◌, ◌≤◌, ◌+◌, Bool, true, false, cond, List, [], ◌∷◌, ◌++◌, length, take, get_or, map, filter, fold, bytes_eq, refl, sym, ap, ◌∙◌, subst, IsTrue, arith}
 use Rattle.std.specs.Str.{IsUtf8}
 use Rattle.std.proofs.lemmas.Str.{IsUtf8-from_ascii}
 use Rattle.std.proofs.lemmas.Str.Ascii.{IsAscii-from_all}
-use Rattle.std.proofs.lemmas.List.Sums.{sum_by-cons}
+use Rattle.std.proofs.lemmas.List.Sums.{sum_by-cons, length-filter, count_by-le-length, fold-append}
 use Rattle.std.specs.List.{All}
-use Rattle.std.proofs.lemmas.List.{length-append, length-map, length-take}
-use Rattle.std.proofs.lemmas.List.Elements.{All-nil, All-cons, All-head, All-tail, All-weaker}
+use Rattle.std.proofs.lemmas.List.{length-append, length-map, length-take, map-append, take_more}
+use Rattle.std.proofs.lemmas.List.Elements.{All-nil, All-cons, All-head, All-tail, All-weaker, filter-append}
 use Rattle.http_header.specs.HeaderMap.{Entries, append, value_count}
 use Rattle.http_header.proofs.TokenLemmas.{token_byte_range}
 use Rattle.httparse.specs.Grammar.{Field, IsField, IsToken, is_token_byte, is_value_byte}
@@ -17,7 +17,7 @@ use Rattle.http_header.specs.Token as token
 use Rattle.http_header.specs.FieldValue.{FieldValue, plain_value}
 use Rattle.http_header.specs.Token.{lowercase}
 use Rattle.http_edge.specs.Headers.{IsClean}
-use Rattle.http_edge.specs.Request.{headers_by}
+use Rattle.http_edge.specs.Request.{is_read, headers_by}
 
 -- the two ports have the same bytes of a token
 same_byte : (b : ℕ) → is_token_byte b ≡ token.is_token_byte b
@@ -82,13 +82,32 @@ values_from m (pair ∷ pairs) =
     let others = values_from (with_pair m pair) pairs in
     omega (arith, first, others)
 
+-- the next of them: it stands behind those of its name where calls read it, and is passed over elsewhere
+abbrev with_read : Entries FieldValue → List ℕ × List ℕ → Entries FieldValue
+with_read m pair = cond (is_read (lowercase pair.0)) (with_pair m pair) m
+
+headers-push : (pairs : List (List ℕ × List ℕ)) (pair : List ℕ × List ℕ) → headers_by (pairs ++ pair ∷ []) ≡ with_read (headers_by pairs) pair
+headers-push pairs pair =
+    let test : List ℕ × List ℕ → Bool = λ p. is_read (lowercase p.0) in
+    ap (fold with_pair []) (filter-append test pairs (pair ∷ [])) ∙ fold-append with_pair [] (filter test pairs) (filter test (pair ∷ []))
+    ∙ elim (is_read (lowercase pair.0)) as (λ t. fold with_pair (headers_by pairs) (cond t (pair ∷ []) []) ≡ cond t (with_pair (headers_by pairs) pair) (headers_by pairs)) [ true ↦ refl | false ↦ refl ]
+
+pub next_header : (bytes : List ℕ) (spans : List HeaderSpan) (i : ℕ) (d : HeaderSpan) → i < length spans
+    → headers_by (map (header_bytes bytes) (take (i + 1) spans)) ≡ with_read (headers_by (map (header_bytes bytes) (take i spans))) (header_bytes bytes (get_or spans i d))
+next_header bytes spans i d within =
+    ap (λ l. headers_by (map (header_bytes bytes) l)) (take_more spans i d within) ∙ ap headers_by (map-append (header_bytes bytes) (take i spans) (get_or spans i d ∷ []))
+    ∙ headers-push (map (header_bytes bytes) (take i spans)) (header_bytes bytes (get_or spans i d))
+
 -- there is room for one more
 pub room_left : (bytes : List ℕ) (spans : List HeaderSpan) (i : ℕ) (headers : Entries FieldValue) → i < 64 → headers ≡ headers_by (map (header_bytes bytes) (take i spans))
     → (length headers < 64) × (value_count headers < 64)
 room_left bytes spans i headers few is =
     let pairs = map (header_bytes bytes) (take i spans) in
-    let names = names_from [] pairs in
-    let values = values_from [] pairs in
+    let kept = filter (λ pair. is_read (lowercase pair.0)) pairs in
+    let names = names_from [] kept in
+    let values = values_from [] kept in
+    let fewer = count_by-le-length (λ (pair : List ℕ × List ℕ). is_read (lowercase pair.0)) pairs in
+    let counted = length-filter (λ (pair : List ℕ × List ℕ). is_read (lowercase pair.0)) pairs in
     let many = length-map (take i spans) (header_bytes bytes) in
     let short = length-take i spans in
-    rw is (omega (arith, few, names, many, short), omega (arith, few, values, many, short))
+    rw is (omega (arith, few, names, counted, fewer, many, short), omega (arith, few, values, counted, fewer, many, short))

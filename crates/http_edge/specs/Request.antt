@@ -1,6 +1,6 @@
 -- How bytes become one request (RFC 9112, sections 2 to 6; RFC 9110, section 8.6).
-use Rattle.std.specs.Prelude.{◌≡◌, ◌⊎◌, ℕ, ◌≤◌, ◌==◌, nat_le, Bool, true, false, not, ◌&&◌, ◌||◌, List, [], ◌∷◌, length, map, fold, if◌then◌else◌, codes, bytes_eq}
-use Rattle.std.specs.List.{before_first, after_first}
+use Rattle.std.specs.Prelude.{◌≡◌, ◌⊎◌, ℕ, ◌≤◌, ◌==◌, nat_le, Bool, true, false, not, ◌&&◌, ◌||◌, List, [], ◌∷◌, length, map, filter, fold, if◌then◌else◌, codes, bytes_eq}
+use Rattle.std.specs.List.{before_first, after_first, list_any}
 use Rattle.std.specs.Option.{is_some}
 use Rattle.std.specs.Str.{all_ascii_digits}
 use Rattle.std.specs.Str.Parse.{digits_value}
@@ -14,6 +14,7 @@ use Rattle.rule_table.specs.declared.fault.FaultKind.{FaultKind}
 use Rattle.rule_table.specs.declared.fault.FaultKind.TheVariants.{BadHead, BadLength}
 use Rattle.b2_model.specs.declared.request.Request.{Request}
 use Rattle.b2_model.specs.Checks.{some_and}
+use Rattle.b2_model.specs.Denial.{begins_with}
 use Rattle.http_edge.specs.declared.route.Route.{Route}
 use Rattle.http_edge.specs.Route.{IsRouted, IsRouteFault}
 
@@ -35,9 +36,16 @@ path_of h = before_first (λ b. b == 63) h.target
 abbrev pub query_of : RequestHead → List ℕ
 query_of h = after_first (λ b. b == 63) h.target
 
+-- the headers that calls read, by their names in lower case; all others are ignored
+abbrev pub read_names : List (List ℕ)
+read_names = codes "authorization" ∷ codes "connection" ∷ codes "content-length" ∷ codes "content-type" ∷ codes "range" ∷ codes "transfer-encoding" ∷ []
+
+abbrev pub is_read : List ℕ → Bool
+is_read name = begins_with (codes "x-bz-") name || list_any (bytes_eq name) read_names
+
 -- a field's value, without the white space around it, stands behind those of its name
 abbrev pub headers_by : List (List ℕ × List ℕ) → Entries FieldValue
-headers_by pairs = fold (λ headers pair. append headers (lowercase pair.0) (plain_value pair.1)) [] pairs
+headers_by pairs = fold (λ headers pair. append headers (lowercase pair.0) (plain_value pair.1)) [] (filter (λ pair. is_read (lowercase pair.0)) pairs)
 
 abbrev pub headers_of : RequestHead → Entries FieldValue
 headers_of h = headers_by (map (λ field. (field.name, field_value field)) h.fields)

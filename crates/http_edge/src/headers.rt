@@ -1,11 +1,12 @@
 //! The headers of a request.
 
-ghost use Rattle.std.specs.Prelude.{◌≡◌, [], ◌+◌, ◌≤◌, ◌<◌, length, map, All, IfOk, OnOk};
+ghost use Rattle.std.specs.Prelude.{◌≡◌, [], ◌+◌, ◌≤◌, ◌<◌, length, map, codes, bytes_eq, All, IfOk, OnOk};
 ghost use Rattle.httparse.specs.Spans.{IsHeaderWithin, IsWithin, header_bytes, span_bytes};
 ghost use Rattle.http_header.specs.FieldValue.{plain_value};
 ghost use Rattle.http_header.specs.HeaderMap.{append, value_count};
 ghost use Rattle.http_header.specs.Token.{lowercase, IsToken, AllPass, is_value_byte};
-ghost use Rattle.http_edge.specs.Request.{headers_by};
+ghost use Rattle.b2_model.specs.Denial.{begins_with};
+ghost use Rattle.http_edge.specs.Request.{is_read, headers_by};
 ghost use Rattle.http_edge.specs.Headers.{IsClean};
 
 use b2_base::Memory;
@@ -36,18 +37,6 @@ fn header_value(bytes: &Bytes, place: Span) -> Result<HeaderValue, Memory>
     Ok(HeaderValue::from_known_valid(value))
 }
 
-// An empty map with room for so many names.
-fn empty_map(alloc: Global, names: usize) -> Result<HeaderMap<HeaderValue>, Memory>
-    requires { names ≤ 64 }
-    ensures { IfOk result (λ m. m ≡ []) }
-{
-    match HeaderMap::with_capacity(alloc, names) {
-        Ok(map) => Ok(map),
-        Err(HeaderMapError::OutOfMemory) => Err(Memory),
-        Err(HeaderMapError::MaxSizeReached) => unreachable!(),
-    }
-}
-
 // Puts the value behind those of its name.
 fn add_header(
     map: &mut HeaderMap<HeaderValue>,
@@ -64,7 +53,37 @@ fn add_header(
     }
 }
 
-/// The headers at these places of the bytes. All values share one copy of them.
+// The name, in any case, is this one, which is given in lower case.
+fn is_named(name: &[u8], lower: &[u8]) -> bool
+    requires lower { lowercase lower.now ≡ lower.now }
+    ensures { result ≡ bytes_eq (lowercase name.now) lower.now }
+{
+    name.eq_ignore_ascii_case(lower)
+}
+
+fn is_own(name: &[u8]) -> bool
+    ensures { result ≡ begins_with (codes "x-bz-") (lowercase name.now) }
+{
+    match name.get(..5) {
+        Some(front) => is_named(front, b"x-bz-"),
+        None => false,
+    }
+}
+
+fn is_read(name: &[u8]) -> bool
+    ensures { result ≡ is_read (lowercase name.now) }
+{
+    is_own(name)
+        || is_named(name, b"authorization")
+        || is_named(name, b"connection")
+        || is_named(name, b"content-length")
+        || is_named(name, b"content-type")
+        || is_named(name, b"range")
+        || is_named(name, b"transfer-encoding")
+}
+
+/// The headers at these places of the bytes, but for those that no call reads. All values share one copy of
+/// them.
 pub(crate) fn header_map(
     alloc: Global,
     bytes: &[u8],
@@ -77,11 +96,14 @@ pub(crate) fn header_map(
     ensures { IfOk result (λ headers. headers ≡ headers_by (map (header_bytes bytes.now) spans.now)) }
 {
     let shared = Bytes::copy_from_slice(alloc, bytes)?;
-    let mut headers = empty_map(alloc, spans.len())?;
+    let mut headers = HeaderMap::new(alloc);
     for span in spans {
-        let name = header_name(alloc, span.name.of(bytes))?;
-        let value = header_value(&shared, span.value)?;
-        add_header(&mut headers, name, value)?;
+        let name = span.name.of(bytes);
+        if is_read(name) {
+            let name = header_name(alloc, name)?;
+            let value = header_value(&shared, span.value)?;
+            add_header(&mut headers, name, value)?;
+        }
     }
     Ok(headers)
 }

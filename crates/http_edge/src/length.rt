@@ -5,7 +5,7 @@ ghost use Rattle.std.specs.Int.{IsInRange};
 ghost use Rattle.std.specs.Str.Parse.{digits_value};
 ghost use Rattle.http_edge.specs.Request.{lengths, is_length, are_lengths, told_length, is_upload, has_digest_last, least_body, most_body, is_bad_length};
 
-use http_header::{HeaderMap, HeaderValue};
+use http_header::{CONTENT_LENGTH, HeaderMap, HeaderValue, TRANSFER_ENCODING};
 use rule_table::CallName;
 
 // The most bytes of a JSON body and of a content, and the bytes of a digest behind a content.
@@ -49,7 +49,7 @@ fn told_length(headers: &HeaderMap<HeaderValue>) -> Option<u64>
     ensures { MatchOption result (are_lengths (lengths headers.now) ≡ false)
         (λ n. (are_lengths (lengths headers.now) ≡ true) × (n ≡ told_length (lengths headers.now))) }
 {
-    let all = headers.get_all("content-length");
+    let all = headers.get_all(&CONTENT_LENGTH);
     let mut values = all.iter();
     let Some(first) = values.next() else {
         return Some(0);
@@ -110,8 +110,8 @@ pub(crate) fn body_length(name: CallName, headers: &HeaderMap<HeaderValue>) -> O
     let Some(told) = told_length(headers) else {
         return None;
     };
-    let is_coded = headers.get("transfer-encoding").is_some();
-    let is_missing = is_upload(name) && headers.get("content-length").is_none();
+    let is_coded = headers.get(&TRANSFER_ENCODING).is_some();
+    let is_missing = is_upload(name) && headers.get(&CONTENT_LENGTH).is_none();
     let is_low = told < least_body(name, headers);
     let is_high = most_body(name, headers) < told;
     if is_coded | is_missing | is_low | is_high {
