@@ -11,6 +11,7 @@ pub struct Request {
     pub path: Text,
     /// The target behind it; empty where there is none.
     pub query: Text,
+    /// Those that some call reads, by their names in lower case; all others are ignored.
     pub headers: HeaderMap<HeaderValue>,
     /// The bytes of the body; 0 where the request is for no call.
     pub length: u64,

@@ -43,7 +43,7 @@ read_names = codes "authorization" ∷ codes "connection" ∷ codes "content-len
 abbrev pub is_read : List ℕ → Bool
 is_read name = begins_with (codes "x-bz-") name || list_any (bytes_eq name) read_names
 
--- a field's value, without the white space around it, stands behind those of its name
+-- the value of a field that calls read, without the white space around it, stands behind those of its name
 abbrev pub headers_by : List (List ℕ × List ℕ) → Entries FieldValue
 headers_by pairs = fold (λ headers pair. append headers (lowercase pair.0) (plain_value pair.1)) [] (filter (λ pair. is_read (lowercase pair.0)) pairs)
 

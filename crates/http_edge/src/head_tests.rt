@@ -99,7 +99,10 @@ fn header_fields(rt: HostRuntime) -> Result<(), Fail> {
     let rows: [(&[u8], &str); 21] = [
         // White space round a value is none of it (RFC 9110, section 5.5); a value may be empty.
         (b"GET /x HTTP/1.1\r\nRange:b\r\n\r\n", "GET /x ? 0 range=b"),
-        (b"GET /x HTTP/1.1\r\nRange: \t b \t\r\n\r\n", "GET /x ? 0 range=b"),
+        (
+            b"GET /x HTTP/1.1\r\nRange: \t b \t\r\n\r\n",
+            "GET /x ? 0 range=b",
+        ),
         (b"GET /x HTTP/1.1\r\nRange:\r\n\r\n", "GET /x ? 0 range="),
         (
             b"GET /x HTTP/1.1\r\nRange: b\tc  d\r\n\r\n",
@@ -110,7 +113,10 @@ fn header_fields(rt: HostRuntime) -> Result<(), Fail> {
             b"GET /x HTTP/1.1\r\nRange: \xc3\xa9\r\n\r\n",
             "GET /x ? 0 range=\u{e9}",
         ),
-        (b"GET /x HTTP/1.1\r\nRange: \xe9\r\n\r\n", "GET /x ? 0 range=?"),
+        (
+            b"GET /x HTTP/1.1\r\nRange: \xe9\r\n\r\n",
+            "GET /x ? 0 range=?",
+        ),
         (b"GET /x HTTP/1.1\r\nRange: b\0c\r\n\r\n", "BadHead"),
         (b"GET /x HTTP/1.1\r\nRange: b\rc\r\n\r\n", "BadHead"),
         (b"GET /x HTTP/1.1\r\nRange: b\x7fc\r\n\r\n", "BadHead"),
@@ -181,7 +187,11 @@ fn read_fields(rt: HostRuntime) -> Result<(), Fail> {
     ] {
         let head = format!(in alloc; "GET /x HTTP/1.1\n{field}\n\n")?;
         let text = shown(alloc, head.as_bytes())?;
-        assert_eq!(rt; text.as_str().strip_prefix("GET /x ? 0"), Some(want), "{field}");
+        assert_eq!(rt;
+            text.as_str().strip_prefix("GET /x ? 0"),
+            Some(want),
+            "{field}"
+        );
     }
     Ok(())
 }

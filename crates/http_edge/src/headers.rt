@@ -61,6 +61,7 @@ fn is_named(name: &[u8], lower: &[u8]) -> bool
     name.eq_ignore_ascii_case(lower)
 }
 
+// B2's own headers, whose names all begin so.
 fn is_own(name: &[u8]) -> bool
     ensures { result ≡ begins_with (codes "x-bz-") (lowercase name.now) }
 {
