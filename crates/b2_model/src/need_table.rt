@@ -30,13 +30,63 @@ pub struct Need {
     pub things: &'static [Thing],
 }
 
-fn entry(tokens: &'static [TokenKind], caps: &'static [Cap], things: &'static [Thing]) -> Need
-    ensures { (result.tokens.now ≡ tokens.now) × (result.caps.now ≡ caps.now) × (result.things.now ≡ things.now) }
+// A call takes the account's token, but for these.
+fn tokens_of(name: CallName) -> &'static [TokenKind]
+    ensures { result.now ≡ (need name).tokens }
 {
-    Need {
-        tokens,
-        caps,
-        things,
+    match name {
+        CallName::AuthorizeAccount => &[],
+        CallName::UploadFile => &[TokenKind::UploadUrl],
+        CallName::UploadPart => &[TokenKind::PartUrl],
+        CallName::DownloadFileByName => &[TokenKind::Account, TokenKind::Download],
+        _ => &[TokenKind::Account],
+    }
+}
+
+// A call needs the right to write files, but for these.
+fn caps_of(name: CallName) -> &'static [Cap]
+    ensures { result.now ≡ (need name).caps }
+{
+    match name {
+        CallName::AuthorizeAccount => &[],
+        CallName::CreateBucket | CallName::UpdateBucket => &[Cap::WriteBuckets],
+        CallName::DeleteBucket => &[Cap::DeleteBuckets],
+        CallName::ListBuckets => &[Cap::ListBuckets],
+        CallName::CreateKey => &[Cap::WriteKeys],
+        CallName::DeleteKey => &[Cap::DeleteKeys],
+        CallName::ListKeys => &[Cap::ListKeys],
+        CallName::ListUnfinishedLargeFiles | CallName::ListFileNames | CallName::ListFileVersions =>
+            &[Cap::ListFiles],
+        CallName::GetFileInfo | CallName::DownloadFileById | CallName::DownloadFileByName => {
+            &[Cap::ReadFiles]
+        }
+        CallName::DeleteFileVersion => &[Cap::DeleteFiles],
+        CallName::GetDownloadAuthorization => &[Cap::ShareFiles],
+        CallName::UpdateFileRetention => &[Cap::WriteFileRetentions],
+        CallName::UpdateFileLegalHold => &[Cap::WriteFileLegalHolds],
+        _ => &[Cap::WriteFiles],
+    }
+}
+
+// A call names a file by its id, but for these.
+fn things_of(name: CallName) -> &'static [Thing]
+    ensures { result.now ≡ (need name).things }
+{
+    match name {
+        CallName::AuthorizeAccount | CallName::DeleteKey => &[],
+        CallName::CreateBucket | CallName::ListKeys => &[Thing::Account],
+        CallName::UpdateBucket | CallName::DeleteBucket => &[Thing::Account, Thing::Bucket],
+        CallName::ListBuckets | CallName::CreateKey => &[Thing::Account, Thing::SomeBucket],
+        CallName::GetUploadUrl => &[Thing::Bucket],
+        CallName::UploadFile | CallName::StartLargeFile | CallName::HideFile => {
+            &[Thing::Bucket, Thing::Name]
+        }
+        CallName::ListUnfinishedLargeFiles
+        | CallName::ListFileNames
+        | CallName::ListFileVersions
+        | CallName::GetDownloadAuthorization => &[Thing::Bucket, Thing::Prefix],
+        CallName::DownloadFileByName => &[Thing::PathBucket, Thing::Name],
+        _ => &[Thing::File],
     }
 }
 
@@ -46,117 +96,9 @@ pub fn need_of(name: CallName) -> Need
     ensures caps { result.caps.now ≡ (need name).caps }
     ensures things { result.things.now ≡ (need name).things }
 {
-    match name {
-        CallName::AuthorizeAccount => entry(&[], &[], &[]),
-        CallName::CreateBucket => entry(
-            &[TokenKind::Account],
-            &[Cap::WriteBuckets],
-            &[Thing::Account],
-        ),
-        CallName::UpdateBucket => entry(
-            &[TokenKind::Account],
-            &[Cap::WriteBuckets],
-            &[Thing::Account, Thing::Bucket],
-        ),
-        CallName::DeleteBucket => entry(
-            &[TokenKind::Account],
-            &[Cap::DeleteBuckets],
-            &[Thing::Account, Thing::Bucket],
-        ),
-        CallName::ListBuckets => entry(
-            &[TokenKind::Account],
-            &[Cap::ListBuckets],
-            &[Thing::Account, Thing::SomeBucket],
-        ),
-        CallName::CreateKey => entry(
-            &[TokenKind::Account],
-            &[Cap::WriteKeys],
-            &[Thing::Account, Thing::SomeBucket],
-        ),
-        CallName::DeleteKey => entry(&[TokenKind::Account], &[Cap::DeleteKeys], &[]),
-        CallName::ListKeys => entry(&[TokenKind::Account], &[Cap::ListKeys], &[Thing::Account]),
-        CallName::GetUploadUrl => entry(
-            &[TokenKind::Account],
-            &[Cap::WriteFiles],
-            &[Thing::Bucket],
-        ),
-        CallName::UploadFile => entry(
-            &[TokenKind::UploadUrl],
-            &[Cap::WriteFiles],
-            &[Thing::Bucket, Thing::Name],
-        ),
-        CallName::StartLargeFile => entry(
-            &[TokenKind::Account],
-            &[Cap::WriteFiles],
-            &[Thing::Bucket, Thing::Name],
-        ),
-        CallName::GetUploadPartUrl => entry(
-            &[TokenKind::Account],
-            &[Cap::WriteFiles],
-            &[Thing::File],
-        ),
-        CallName::UploadPart => entry(&[TokenKind::PartUrl], &[Cap::WriteFiles], &[Thing::File]),
-        CallName::ListParts => entry(&[TokenKind::Account], &[Cap::WriteFiles], &[Thing::File]),
-        CallName::FinishLargeFile => entry(
-            &[TokenKind::Account],
-            &[Cap::WriteFiles],
-            &[Thing::File],
-        ),
-        CallName::CancelLargeFile => entry(
-            &[TokenKind::Account],
-            &[Cap::WriteFiles],
-            &[Thing::File],
-        ),
-        CallName::ListUnfinishedLargeFiles => entry(
-            &[TokenKind::Account],
-            &[Cap::ListFiles],
-            &[Thing::Bucket, Thing::Prefix],
-        ),
-        CallName::ListFileNames => entry(
-            &[TokenKind::Account],
-            &[Cap::ListFiles],
-            &[Thing::Bucket, Thing::Prefix],
-        ),
-        CallName::ListFileVersions => entry(
-            &[TokenKind::Account],
-            &[Cap::ListFiles],
-            &[Thing::Bucket, Thing::Prefix],
-        ),
-        CallName::GetFileInfo => entry(&[TokenKind::Account], &[Cap::ReadFiles], &[Thing::File]),
-        CallName::HideFile => entry(
-            &[TokenKind::Account],
-            &[Cap::WriteFiles],
-            &[Thing::Bucket, Thing::Name],
-        ),
-        CallName::DeleteFileVersion => entry(
-            &[TokenKind::Account],
-            &[Cap::DeleteFiles],
-            &[Thing::File],
-        ),
-        CallName::GetDownloadAuthorization => entry(
-            &[TokenKind::Account],
-            &[Cap::ShareFiles],
-            &[Thing::Bucket, Thing::Prefix],
-        ),
-        CallName::DownloadFileById => entry(
-            &[TokenKind::Account],
-            &[Cap::ReadFiles],
-            &[Thing::File],
-        ),
-        CallName::DownloadFileByName => entry(
-            &[TokenKind::Account, TokenKind::Download],
-            &[Cap::ReadFiles],
-            &[Thing::PathBucket, Thing::Name],
-        ),
-        CallName::UpdateFileRetention => entry(
-            &[TokenKind::Account],
-            &[Cap::WriteFileRetentions],
-            &[Thing::File],
-        ),
-        CallName::UpdateFileLegalHold => entry(
-            &[TokenKind::Account],
-            &[Cap::WriteFileLegalHolds],
-            &[Thing::File],
-        ),
+    Need {
+        tokens: tokens_of(name),
+        caps: caps_of(name),
+        things: things_of(name),
     }
 }

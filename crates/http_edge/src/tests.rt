@@ -88,7 +88,7 @@ fn fault_of(method: &str, path: &str) -> Option<FaultKind> {
 }
 
 #[test]
-fn paths(rt: HostRuntime) -> Result<(), Fail> {
+fn other_paths(rt: HostRuntime) -> Result<(), Fail> {
     for path in [
         "",
         "/x",
@@ -107,6 +107,11 @@ fn paths(rt: HostRuntime) -> Result<(), Fail> {
     ] {
         assert_eq!(rt; name_of(path), None, "{path}");
     }
+    Ok(())
+}
+
+#[test]
+fn paths(rt: HostRuntime) -> Result<(), Fail> {
     for (path, name) in [
         ("/b2api/v3/b2_create_bucket", CallName::CreateBucket),
         (
