@@ -15,7 +15,7 @@ pub use escape::{ESCAPED, encode_name, encode_text};
 pub use file::{FileName, NameFault, file_name};
 pub use folder::{folder_of, is_prefix};
 pub use info::{InfoFault, InfoPairs, info_pairs};
-pub use laws::{comes_back, escaped_names};
+pub use laws::escaped_names;
 
 #[cfg(test)]
 mod tests;

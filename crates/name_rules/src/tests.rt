@@ -1,8 +1,8 @@
 //! Names at their limits, and folders.
 
 use crate::{
-    BucketFault, EscapeFault, InfoFault, NameFault, bucket_name, comes_back, decode_name,
-    encode_name, file_name, folder_of, info_pairs, is_prefix,
+    BucketFault, EscapeFault, InfoFault, NameFault, bucket_name, decode_name, encode_name,
+    file_name, folder_of, info_pairs, is_prefix,
 };
 use b2_base::{Or, Text};
 use std::alloc::Global;
@@ -47,7 +47,10 @@ fn files(rt: HostRuntime) -> Result<(), Fail> {
     assert_eq!(rt; name.get(), "a b/é");
     let text = encode_name(alloc, &name).ok().ok_or("memory")?;
     assert_eq!(rt; text.get(), "a%20b/%C3%A9");
-    assert_eq!(rt; comes_back(alloc, &name).ok(), Some(true));
+    let again = decode_name(alloc, text.get().as_bytes())
+        .ok()
+        .ok_or("text")?;
+    assert_eq!(rt; again.get(), name.get());
     Ok(())
 }
 
