@@ -1,5 +1,7 @@
 //! Standard input and output as a source and a sink: they count faults, and tell nothing of contents.
 
+ghost use Rattle.std.specs.Prelude.{◌≡◌};
+
 use outside_traits::{Failed, Sink, Source};
 use std::io::{Read, Write};
 
@@ -12,7 +14,9 @@ pub struct StdIn<R: Read + Drop> {
 
 impl<R: Read + Drop> StdIn<R> {
     /// No fault was counted yet.
-    pub fn new(inner: R) -> StdIn<R> {
+    pub fn new(inner: R) -> StdIn<R>
+        ensures { (result.inner ≡ inner) × (result.faults ≡ 0) }
+    {
         StdIn { inner, faults: 0 }
     }
 }
@@ -42,7 +46,9 @@ pub struct StdOut<W: Write + Drop> {
 
 impl<W: Write + Drop> StdOut<W> {
     /// No fault was counted yet.
-    pub fn new(inner: W) -> StdOut<W> {
+    pub fn new(inner: W) -> StdOut<W>
+        ensures { (result.inner ≡ inner) × (result.faults ≡ 0) }
+    {
         StdOut { inner, faults: 0 }
     }
 }
