@@ -2,7 +2,7 @@
 use Rattle.std.proofs.Common.{◌≡◌, ◌≢◌, ℕ, zero, suc, ◌<◌, ◌^◌, List, [], ◌∷◌, length, Ok, Err, sym, ap, ◌∙◌, refl, arith}
 use Rattle.std.specs.Int.{w32, w64, to_be_bytes, from_be_bytes, bytes_high_first, byte_at}
 use Rattle.std.specs.Result.{result_unwrap_or}
-use Rattle.std.proofs.lemmas.Nat.{be_bytes_4, be_bytes_8, from_be_bytes-to_be_bytes_8}
+use Rattle.std.proofs.lemmas.Nat.{be_bytes_4, be_bytes_8, from_be_bytes-to_be_bytes_4, from_be_bytes-to_be_bytes_8}
 use Rattle.hex.specs.Hex.{encode_lower, decode_sized, IsBytes, lower_digits}
 use Rattle.hex.proofs.HexLemmas.{decode_sized-encode_lower, decode_sized-ok, decode_sized-twice, decode_of-ok, length-encode_with}
 use Rattle.hex.specs.declared.error.FromHexError.{FromHexError}
@@ -87,9 +87,20 @@ unfolding sixteen_digits
 length-sixteen_digits n = length-encode_with lower_digits (to_be_bytes w64 n)
 
 -- a number has its own digits
+same_bytes : (k : ℕ) (xs ys : List ℕ) → length xs ≡ k → length ys ≡ k → IsBytes xs → IsBytes ys → encode_lower xs ≡ encode_lower ys → xs ≡ ys
+same_bytes k xs ys x_len y_len x_fits y_fits same =
+    let first = decodes (encode_lower xs) xs k x_len x_fits refl in
+    let second = decodes (encode_lower xs) ys k y_len y_fits same in
+    ap (λ r. result_unwrap_or r []) (sym first ∙ second)
+
+pub same_eight : (m n : ℕ) → m < 2 ^ 32 → n < 2 ^ 32 → eight_digits m ≡ eight_digits n → m ≡ n
+unfolding eight_digits
+same_eight m n small_m small_n same =
+    let bytes = same_bytes 4 (to_be_bytes w32 m) (to_be_bytes w32 n) refl refl (high_bytes 4 m) (high_bytes 4 n) same in
+    sym (from_be_bytes-to_be_bytes_4 m small_m) ∙ ap (from_be_bytes w32) bytes ∙ from_be_bytes-to_be_bytes_4 n small_n
+
 pub same_sixteen : (m n : ℕ) → m < 2 ^ 64 → n < 2 ^ 64 → sixteen_digits m ≡ sixteen_digits n → m ≡ n
+unfolding sixteen_digits
 same_sixteen m n small_m small_n same =
-    let first = decodes_sixteen (sixteen_digits m) m refl in
-    let second = decodes_sixteen (sixteen_digits m) n same in
-    let bytes : to_be_bytes w64 m ≡ to_be_bytes w64 n = ap (λ r. result_unwrap_or r []) (sym first ∙ second) in
+    let bytes = same_bytes 8 (to_be_bytes w64 m) (to_be_bytes w64 n) refl refl (high_bytes 8 m) (high_bytes 8 n) same in
     sym (from_be_bytes-to_be_bytes_8 m small_m) ∙ ap (from_be_bytes w64) bytes ∙ from_be_bytes-to_be_bytes_8 n small_n

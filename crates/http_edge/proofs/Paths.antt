@@ -1,16 +1,12 @@
 -- A path is of one call, and names one thing.
 use Rattle.std.proofs.Common.{◌≡◌, ℕ, zero, suc, ◌<◌, ◌≤◌, ◌^◌, ◌⊎◌, inl, inr, Bool, true, not, ◌==◌, List, [], ◌∷◌, ◌++◌, take, drop, get_or, Some, slice_get, unwrap_or, codes, refl, sym, ap, ◌∙◌, subst, append_assoc, arith}
 use Rattle.std.specs.List.{list_all}
-use Rattle.std.specs.Int.{w32, to_be_bytes, from_be_bytes}
 use Rattle.std.proofs.lemmas.Bool.{cases_lt, and_parts, false≢true}
-use Rattle.std.proofs.lemmas.Nat.{from_be_bytes-to_be_bytes_4}
 use Rattle.std.proofs.lemmas.Option.{slice_get_past, get_or_from_slice_get, none-some}
 use Rattle.std.proofs.Math.Seq.{take-append_seam}
-use Rattle.hex.specs.Hex.{encode_lower, decode_of}
-use Rattle.hex.proofs.HexLemmas.{decode_of-encode_lower, decode_of-same}
 use Rattle.b2_base.specs.Digits.{eight_digits, sixteen_digits}
 use Rattle.b2_base.specs.FileId.{file_id}
-use Rattle.b2_base.proofs.DigitsLemmas.{length-eight_digits}
+use Rattle.b2_base.proofs.DigitsLemmas.{length-eight_digits, same_eight}
 use Rattle.b2_base.proofs.IdLemmas.{one_version}
 use Rattle.rule_table.specs.CallName.{call_names, call_order, call_place, call_there}
 use Rattle.rule_table.specs.Rows.{IsRow}
@@ -25,21 +21,6 @@ use Rattle.http_edge.specs.Route.{api_front, upload_front, part_front, download_
 use Rattle.http_edge.proofs.Routes.{plain_path}
 
 -- ---- numbers by their digits
-
-four_bytes : (n i : ℕ) → get_or (to_be_bytes w32 n) i 0 < 256
-four_bytes n zero = omega arith
-four_bytes n (suc zero) = omega arith
-four_bytes n (suc (suc zero)) = omega arith
-four_bytes n (suc (suc (suc zero))) = omega arith
-four_bytes n (suc (suc (suc (suc i)))) = omega arith
-
-same_eight : (m n : ℕ) → m < 2 ^ 32 → n < 2 ^ 32 → eight_digits m ≡ eight_digits n → m ≡ n
-unfolding eight_digits
-same_eight m n small_m small_n same =
-    let first = decode_of-encode_lower (to_be_bytes w32 m) (four_bytes m) in
-    let second = decode_of-encode_lower (to_be_bytes w32 n) (four_bytes n) in
-    let bytes = decode_of-same (encode_lower (to_be_bytes w32 m)) (to_be_bytes w32 m) (to_be_bytes w32 n) first (ap decode_of same ∙ second) in
-    sym (from_be_bytes-to_be_bytes_4 m small_m) ∙ ap (from_be_bytes w32) bytes ∙ from_be_bytes-to_be_bytes_4 n small_n
 
 one_bucket : (path : List ℕ) (a b : ℕ) → a < 2 ^ 32 → b < 2 ^ 32 → path ≡ upload_front ++ bucket_id a → path ≡ upload_front ++ bucket_id b → a ≡ b
 one_bucket path a b small_a small_b first second = same_eight a b small_a small_b (ap (drop 41) (sym first ∙ second))
