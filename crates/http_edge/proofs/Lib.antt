@@ -9,3 +9,4 @@ pub mod Texts
 pub mod Lengths
 pub mod Fronts
 pub mod Routes
+pub mod Sendable

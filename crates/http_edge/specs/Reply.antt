@@ -1,10 +1,14 @@
 -- The bytes that answer a request: a head (RFC 9112, sections 4 to 6; RFC 9110, sections 14.4 and 15), and
 -- a body of JSON or the content that was asked for.
-use Rattle.std.specs.Prelude.{◌≡◌, ℕ, ◌+◌, ◌-◌, ◌<◌, ◌≤◌, ◌==◌, true, List, [], ◌∷◌, ◌++◌, if◌then◌else◌, length, take, drop, unwrap_or, option_map, codes, decimal}
+use Rattle.std.specs.Prelude.{◌≡◌, ℕ, ◌+◌, ◌-◌, ◌<◌, ◌≤◌, ◌==◌, true, List, [], ◌∷◌, ◌++◌, if◌then◌else◌, length, take, drop, Option, Some, unwrap_or, option_map, codes, decimal}
 use Rattle.std.specs.List.{flat_map}
 use Rattle.serde_json.specs.Written.{compact_text}
 use Rattle.b2_base.specs.FileId.{file_id}
 use Rattle.name_rules.specs.Escape.{encoded_name}
+use Rattle.b2_model.specs.declared.call.ByteRange.{ByteRange}
+use Rattle.b2_model.specs.declared.call.ByteRange.TheVariants as range
+use Rattle.b2_model.specs.declared.call.Call.{Call}
+use Rattle.b2_model.specs.declared.call.Call.TheVariants as call
 use Rattle.b2_model.specs.declared.shown.ContentOf.{ContentOf}
 use Rattle.b2_model.specs.declared.shown.ShownFile.{ShownFile}
 use Rattle.b2_model.specs.declared.shown.AnswerOf.{AnswerOf}
@@ -89,6 +93,17 @@ reply_head other len = json_head (answer_status other) len
 abbrev pub IsSendable : {C : Type 0} → AnswerOf C → Type 0
 IsSendable (answer.Content c) = c.part ≡ true → (0 < c.len) × (c.at + c.len ≤ c.file.length)
 IsSendable other = Unit {0}
+
+-- a range ends where it begins, or behind it
+abbrev pub IsInOrder : Option ByteRange → Type 0
+IsInOrder (Some (range.Between a b)) = a ≤ b
+IsInOrder other = Unit {0}
+
+-- so does the range that the call asks for, where it is for one
+abbrev pub AsksInOrder : Call → Type 0
+AsksInOrder (call.DownloadFileById c) = IsInOrder c.range
+AsksInOrder (call.DownloadFileByName c) = IsInOrder c.range
+AsksInOrder other = Unit {0}
 
 -- the body: the compact JSON text of what the answer says, or the bytes of the content from the first
 -- that was asked for

@@ -11,7 +11,7 @@ mod route;
 
 pub use cut::{Cut, MOST_HEAD, cut_as_it_comes, cut_head};
 pub use head::read_head;
-pub use reply::reply_head;
+pub use reply::{reply_head, sendable_answers};
 pub use route::{Route, one_path, route_of};
 
 #[cfg(test)]

@@ -1,8 +1,11 @@
 //! The head of a reply.
 
-ghost use Rattle.std.specs.Prelude.{◌≡◌, IfOk};
+ghost use Rattle.std.specs.Prelude.{◌≡◌, ℕ, List, IfOk};
+ghost use Rattle.b2_model.specs.declared.call.Call.{Call as TheCall};
+ghost use Rattle.b2_model.specs.State.{State};
+ghost use Rattle.b2_model.specs.Ask.{ask};
 ghost use Rattle.b2_model.specs.FaultTable.{answer_status};
-ghost use Rattle.http_edge.specs.Reply.{json_head, reply_head, reason_of, IsSendable};
+ghost use Rattle.http_edge.specs.Reply.{json_head, reply_head, reason_of, AsksInOrder, IsSendable};
 
 use crate::content::content_head;
 use b2_base::{Memory, Text};
@@ -47,3 +50,10 @@ pub fn reply_head<C>(alloc: Global, answer: &AnswerOf<C>, len: u64) -> Result<Te
         _ => json_head(alloc, answer.status(), len),
     }
 }
+
+/// Each answer of the version machine to a call has a head: a range that has no byte of the content, or
+/// ends behind it, is refused or cut.
+#[tactic(auto, using(crate::proofs::Sendable::sendable))]
+pub fn sendable_answers<C>()
+    ensures { (size : C → ℕ) (M : State C) (t : ℕ) (words : List ℕ) (c : TheCall) → AsksInOrder c → IsSendable (ask size M t words c).answer }
+{}
