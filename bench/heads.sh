@@ -111,12 +111,12 @@ fn work(alloc: Global, what: &str, size: usize, times: u64) -> Option<usize> {
 RATTLE
 PYTHONPATH=$here python3 - "$program" <<'PYTHON'
 import sys
-from seconds import each
+from seconds import each, in_turn
 
 program = sys.argv[1]
 LONGEST = 16_384
 
-ours, places, into_map = (each(program, what, 400, 200_000) * 1e9 for what in ("ours", "theirs", "map"))
+ours, places, into_map = (taken * 1e9 for taken in in_turn(program, ["ours", "theirs", "map"], 400, 100_000, 25))
 print("a head of 400 bytes: %.0f ns" % ours)
 print("the ports' own read into a map: %.0f ns, ours takes %.2f times that" % (into_map, ours / into_map))
 print("the parser's own read into places: %.0f ns, ours takes %.2f times that" % (places, ours / places))
