@@ -1,17 +1,21 @@
 //! The headers of a request.
 
-ghost use Rattle.std.specs.Prelude.{◌≡◌, [], ◌+◌, ◌≤◌, ◌<◌, length, map, codes, bytes_eq, All, IfOk, OnOk};
+ghost use Rattle.std.specs.Prelude.{◌≡◌, [], ◌+◌, ◌≤◌, ◌<◌, true, false, length, map, codes, bytes_eq, All, IfOk, OnOk, MatchOption};
+ghost use Rattle.std.specs.List.{list_any};
 ghost use Rattle.httparse.specs.Spans.{IsHeaderWithin, IsWithin, header_bytes, span_bytes};
 ghost use Rattle.http_header.specs.FieldValue.{plain_value};
 ghost use Rattle.http_header.specs.HeaderMap.{append, value_count};
 ghost use Rattle.http_header.specs.Token.{lowercase, IsToken, AllPass, is_value_byte};
 ghost use Rattle.b2_model.specs.Denial.{begins_with};
-ghost use Rattle.http_edge.specs.Request.{is_read, headers_by};
+ghost use Rattle.http_edge.specs.Request.{read_names, is_read, headers_by};
 ghost use Rattle.http_edge.specs.Headers.{IsClean};
 
 use b2_base::Memory;
 use bytes::Bytes;
-use http_header::{HeaderMap, HeaderMapError, HeaderName, HeaderNameError, HeaderValue};
+use http_header::{
+    AUTHORIZATION, CONNECTION, CONTENT_LENGTH, CONTENT_TYPE, HeaderMap, HeaderMapError, HeaderName,
+    HeaderNameError, HeaderValue, RANGE, TRANSFER_ENCODING,
+};
 use httparse::spans::{HeaderSpan, Span};
 use std::alloc::Global;
 
@@ -71,16 +75,39 @@ fn is_own(name: &[u8]) -> bool
     }
 }
 
-fn is_read(name: &[u8]) -> bool
-    ensures { result ≡ is_read (lowercase name.now) }
+// The name, where it is one of those that stand for themselves.
+fn known_name(name: &[u8]) -> Option<HeaderName>
+    ensures { MatchOption result (list_any (bytes_eq (lowercase name.now)) read_names ≡ false)
+        (λ n. (list_any (bytes_eq (lowercase name.now)) read_names ≡ true) × (n ≡ lowercase name.now)) }
 {
-    is_own(name)
-        || is_named(name, b"authorization")
-        || is_named(name, b"connection")
-        || is_named(name, b"content-length")
-        || is_named(name, b"content-type")
-        || is_named(name, b"range")
-        || is_named(name, b"transfer-encoding")
+    if is_named(name, b"authorization") {
+        Some(AUTHORIZATION)
+    } else if is_named(name, b"connection") {
+        Some(CONNECTION)
+    } else if is_named(name, b"content-length") {
+        Some(CONTENT_LENGTH)
+    } else if is_named(name, b"content-type") {
+        Some(CONTENT_TYPE)
+    } else if is_named(name, b"range") {
+        Some(RANGE)
+    } else if is_named(name, b"transfer-encoding") {
+        Some(TRANSFER_ENCODING)
+    } else {
+        None
+    }
+}
+
+// The name, where some call reads the headers of it.
+fn read_name(alloc: Global, name: &[u8]) -> Result<Option<HeaderName>, Memory>
+    requires token { IsToken name.now }
+    requires short { length name.now ≤ 65535 }
+    ensures { IfOk result (λ o. MatchOption o (is_read (lowercase name.now) ≡ false) (λ n. (is_read (lowercase name.now) ≡ true) × (n ≡ lowercase name.now))) }
+{
+    if is_own(name) {
+        let name = header_name(alloc, name)?;
+        return Ok(Some(name));
+    }
+    Ok(known_name(name))
 }
 
 /// The headers at these places of the bytes, but for those that no call reads. All values share one copy of
@@ -99,9 +126,7 @@ pub(crate) fn header_map(
     let shared = Bytes::copy_from_slice(alloc, bytes)?;
     let mut headers = HeaderMap::new(alloc);
     for span in spans {
-        let name = span.name.of(bytes);
-        if is_read(name) {
-            let name = header_name(alloc, name)?;
+        if let Some(name) = read_name(alloc, span.name.of(bytes))? {
             let value = header_value(&shared, span.value)?;
             add_header(&mut headers, name, value)?;
         }
