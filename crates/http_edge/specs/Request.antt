@@ -36,7 +36,8 @@ path_of h = before_first (λ b. b == 63) h.target
 abbrev pub query_of : RequestHead → List ℕ
 query_of h = after_first (λ b. b == 63) h.target
 
--- the headers that calls read, by their names in lower case; all others are ignored
+-- the headers that calls read are B2's own, whose names begin with x-bz- in any case, and these, here in
+-- lower case; all others are ignored
 abbrev pub read_names : List (List ℕ)
 read_names = codes "authorization" ∷ codes "connection" ∷ codes "content-length" ∷ codes "content-type" ∷ codes "range" ∷ codes "transfer-encoding" ∷ []
 

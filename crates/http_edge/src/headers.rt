@@ -75,7 +75,7 @@ fn is_own(name: &[u8]) -> bool
     }
 }
 
-// The name, where it is one of those that stand for themselves.
+// The name, where it is one of those that calls read beside B2's own. The port's constants need no memory.
 fn known_name(name: &[u8]) -> Option<HeaderName>
     ensures { MatchOption result (list_any (bytes_eq (lowercase name.now)) read_names ≡ false)
         (λ n. (list_any (bytes_eq (lowercase name.now)) read_names ≡ true) × (n ≡ lowercase name.now)) }
