@@ -1,4 +1,5 @@
 pub mod Faults
 pub mod Cuts
 pub mod DigitsLemmas
+pub mod Numerals
 pub mod IdLemmas

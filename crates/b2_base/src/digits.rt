@@ -24,7 +24,9 @@ pub fn write_sixteen(alloc: Global, number: u64) -> Result<String, AllocError>
 
 /// The number of which these are the eight digits.
 pub fn read_eight(text: &[u8]) -> Option<u32>
-    ensures { MatchOption result ((n : ℕ) → n < 2 ^ 32 → text.now ≢ eight_digits n) (λ n. text.now ≡ eight_digits n) }
+    ensures { MatchOption result
+        ((n : ℕ) → n < 2 ^ 32 → text.now ≢ eight_digits n)
+        (λ n. text.now ≡ eight_digits n) }
 {
     let Ok(bytes) = <[u8; 4] as FromHex>::from_hex(text) else {
         return None;
@@ -41,7 +43,9 @@ pub fn read_eight(text: &[u8]) -> Option<u32>
 
 /// The number of which these are the sixteen digits.
 pub fn read_sixteen(text: &[u8]) -> Option<u64>
-    ensures { MatchOption result ((n : ℕ) → n < 2 ^ 64 → text.now ≢ sixteen_digits n) (λ n. text.now ≡ sixteen_digits n) }
+    ensures { MatchOption result
+        ((n : ℕ) → n < 2 ^ 64 → text.now ≢ sixteen_digits n)
+        (λ n. text.now ≡ sixteen_digits n) }
 {
     let Ok(bytes) = <[u8; 8] as FromHex>::from_hex(text) else {
         return None;

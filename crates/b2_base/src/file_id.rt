@@ -6,7 +6,7 @@ ghost use Rattle.b2_base.specs.FileId.{file_id, id_text, IsIdOf};
 use crate::bytes::behind;
 use crate::digits::{read_eight, read_sixteen, write_eight, write_sixteen};
 use crate::failure::Memory;
-use crate::numbers::{BucketNum, VersionNum};
+use crate::numbers::{BucketNum, LAST_VERSION, VersionNum};
 use crate::text::Text;
 use std::alloc::Global;
 
@@ -29,7 +29,8 @@ impl FileId {
     /// The bucket and the version whose id these bytes are.
     pub fn read(bytes: &[u8]) -> Option<(BucketNum, VersionNum)>
         ensures { MatchOption result
-            ((bucket version : ℕ) → bucket < 2 ^ 32 → version ≤ 9007199254740991 → bytes.now ≢ file_id bucket version)
+            ((bucket version : ℕ) → bucket < 2 ^ 32 → version ≤ LAST_VERSION
+            → bytes.now ≢ file_id bucket version)
             (λ id. bytes.now ≡ file_id id.0 id.1) }
     {
         let Some((bucket, version)) = parts(bytes) else {
@@ -48,7 +49,8 @@ impl FileId {
 // The digits of the bucket and of the version, where the bytes have the form of an id.
 fn pieces(bytes: &[u8]) -> Option<(&[u8], &[u8])>
     ensures { MatchOption result
-        ((bucket version : List ℕ) → length bucket ≡ 8 → length version ≡ 16 → bytes.now ≢ id_text bucket version)
+        ((bucket version : List ℕ) → length bucket ≡ 8 → length version ≡ 16
+        → bytes.now ≢ id_text bucket version)
         (λ p. IsIdOf bytes.now p.0.now p.1.now) }
 {
     let Some(rest) = behind(b"4_z", bytes) else {
@@ -67,7 +69,8 @@ fn pieces(bytes: &[u8]) -> Option<(&[u8], &[u8])>
 // The two numbers of which these bytes are an id, in their types' ranges.
 fn parts(bytes: &[u8]) -> Option<(u32, u64)>
     ensures id { MatchOption result
-        ((bucket version : ℕ) → bucket < 2 ^ 32 → version < 2 ^ 64 → bytes.now ≢ file_id bucket version)
+        ((bucket version : ℕ) → bucket < 2 ^ 32 → version < 2 ^ 64
+        → bytes.now ≢ file_id bucket version)
         (λ p. bytes.now ≡ file_id p.0 p.1) }
     ensures range { IfSome result (λ p. p.1 < 2 ^ 64) }
 {

@@ -3,8 +3,8 @@
 ghost use Rattle.std.specs.Prelude.{◌≡◌, IfOk, length};
 
 use crate::{
-    BadRecord, Blob, BucketNum, ConnNum, FileId, KeyNum, LAST_MOMENT, LAST_VERSION, List, Moment,
-    Or, Spelled, Text, VersionNum,
+    BadRecord, Blob, BucketId, BucketNum, ConnNum, FileId, KeyNum, LAST_MOMENT, LAST_VERSION, List,
+    MOST_DIGITS, Moment, Or, Spelled, Text, VersionNum, behind, cut_at, read_decimal, read_digits,
 };
 use std::alloc::{AllocError, Global};
 use std::test::Fail;
@@ -46,10 +46,76 @@ fn file_ids(rt: HostRuntime) -> Result<(), Fail> {
 }
 
 #[test]
+fn bucket_ids(rt: HostRuntime) -> Result<(), Fail> {
+    let alloc = rt.alloc();
+    let spelled = [
+        (0, "000000000000000000000000"),
+        (1, "000000000000000000000001"),
+        (u32::MAX, "0000000000000000ffffffff"),
+    ];
+    for (bucket, text) in spelled {
+        let bucket = BucketNum::new(bucket).ok_or("bucket")?;
+        assert_eq!(rt;
+            BucketId::write(alloc, bucket).ok().ok_or("memory")?.get(),
+            text
+        );
+        assert_eq!(rt; BucketId::read(text.as_bytes()), Some(bucket));
+    }
+    let others = [
+        "",
+        "00000000000000000000001",
+        "0000000000000000000000001",
+        "000000000000000100000000",
+        "0000000000000000FFFFFFFF",
+    ];
+    for text in others {
+        assert_eq!(rt; BucketId::read(text.as_bytes()), None, "{text}");
+    }
+    Ok(())
+}
+
+#[test]
+fn decimals(rt: HostRuntime) -> Result<(), Fail> {
+    for (text, plain, digits) in [
+        ("0", Some(0), Some(0)),
+        ("7", Some(7), Some(7)),
+        ("007", None, Some(7)),
+        (
+            "9999999999999999999",
+            Some(9_999_999_999_999_999_999),
+            Some(9_999_999_999_999_999_999),
+        ),
+        ("18446744073709551615", Some(u64::MAX), None),
+        ("18446744073709551616", None, None),
+        ("", None, None),
+        ("+1", None, None),
+        ("1 ", None, None),
+    ] {
+        assert_eq!(rt; read_decimal(text.as_bytes()), plain, "{text}");
+        assert_eq!(rt; read_digits(text.as_bytes(), MOST_DIGITS), digits, "{text}");
+    }
+    assert_eq!(rt; read_digits(b"12", 1), None);
+    assert_eq!(rt; read_digits(b"", 0), None);
+    Ok(())
+}
+
+#[test]
+fn parts(rt: HostRuntime) -> Result<(), Fail> {
+    let cut = (b"a".as_slice(), b"b:c".as_slice());
+    assert_eq!(rt; cut_at(b':', b"a:b:c"), Some(cut));
+    assert_eq!(rt; cut_at(b':', b"abc"), None);
+    assert_eq!(rt; behind(b"a:", b"a:b:c"), Some(b"b:c".as_slice()));
+    assert_eq!(rt; behind(b"b", b"a:b:c"), None);
+    Ok(())
+}
+
+#[test]
 fn ranges(rt: HostRuntime) -> Result<(), Fail> {
     for (reading, moment) in [(0, 0), (LAST_MOMENT, LAST_MOMENT), (u64::MAX, LAST_MOMENT)] {
         assert_eq!(rt; Moment::from_reading(reading).get(), moment);
     }
+    let last = Moment::from_reading(LAST_MOMENT);
+    assert_eq!(rt; Moment::new(LAST_MOMENT), Some(last));
     assert_eq!(rt; Moment::new(LAST_MOMENT + 1), None);
     assert_eq!(rt; VersionNum::new(LAST_VERSION + 1), None);
     assert_eq!(rt; KeyNum::new(0).ok_or("key")?.get(), 0);

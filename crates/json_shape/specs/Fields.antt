@@ -29,8 +29,8 @@ of_kind kind key (array ds) = or_wrong key (kind (array ds))
 of_kind kind key (object ms) = or_wrong key (kind (object ms))
 
 -- the field of this kind at the key
-abbrev pub needed : {X : Type 0} → (Data → Option X) → List ℕ → Data → Result X FieldFault
-needed kind key d = of_kind kind key (field key d)
+abbrev pub needed_field : {X : Type 0} → (Data → Option X) → List ℕ → Data → Result X FieldFault
+needed_field kind key d = of_kind kind key (field key d)
 
 abbrev pub if_within : ℕ → ℕ → ℕ → Option ℕ
 if_within low high n = if nat_le low n && nat_le n high then Some n else None

@@ -11,6 +11,9 @@ use serde_json::Value;
 use serde_json::error::Category;
 use std::alloc::Global;
 
+/// The most levels that a body is nested.
+pub const MOST_DEPTH: usize = 127;
+
 /// Why bytes are no object of JSON.
 #[derive(Clone, Copy, Debug, PartialEq, Eq)]
 pub enum ShapeFault {
@@ -23,7 +26,7 @@ pub enum ShapeFault {
 /// The object that the bytes are. Of equal keys the last counts.
 pub fn object(alloc: Global, bytes: &[u8]) -> Result<Value, Or<ShapeFault>>
     ensures object { IfOk result (λ v. ReadsObject bytes.now (view v)) }
-    ensures depth { IfOk result (λ v. depth (view v) ≤ 127) }
+    ensures depth { IfOk result (λ v. depth (view v) ≤ MOST_DEPTH) }
     ensures fault { IfFault result (IsShapeFault bytes.now) }
 {
     let value = match Value::from_slice(alloc, bytes) {

@@ -6,7 +6,7 @@ mod fields;
 mod laws;
 mod text;
 
-pub use body::{ShapeFault, object};
+pub use body::{MOST_DEPTH, ShapeFault, object};
 pub use fields::{
     FieldFault, flag_field, list_field, number_field, object_field, present, text_field,
 };

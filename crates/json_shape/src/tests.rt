@@ -6,8 +6,8 @@ ghost use Rattle.serde_json.specs.View.{view};
 ghost use Rattle.json_shape.specs.Object.{IsObject};
 
 use crate::{
-    FieldFault, ShapeFault, flag_field, list_field, number_field, object, object_field, present,
-    read_again, render, text_field,
+    FieldFault, MOST_DEPTH, ShapeFault, flag_field, list_field, number_field, object, object_field,
+    present, read_again, render, text_field,
 };
 use b2_base::Or;
 use serde_json::Value;
@@ -15,7 +15,7 @@ use std::alloc::Global;
 use std::test::Fail;
 
 fn read(alloc: Global, text: &str) -> Result<Value, Fail>
-    ensures { IfOk result (λ v. IsObject (view v) × (depth (view v) ≤ 127)) }
+    ensures { IfOk result (λ v. IsObject (view v) × (depth (view v) ≤ MOST_DEPTH)) }
 {
     Ok(object(alloc, text.as_bytes()).ok().ok_or("an object")?)
 }

@@ -6,13 +6,13 @@ use Rattle.name_rules.specs.FileName.{IsNameFault}
 use Rattle.name_rules.specs.declared.decode.EscapeFault.{EscapeFault}
 use Rattle.name_rules.specs.declared.decode.EscapeFault.TheVariants.{Escape, Name}
 
--- two hex digits stand behind the byte at this place
+-- two hex digits follow the byte at this place
 pub record HasDigitsBehind (bytes : List ℕ) (at : ℕ) : Type 0 where
   pub within : at + 2 < length bytes
   pub high : IsTrue (is_ascii_hexdigit (slice_index bytes (at + 1)))
   pub low : IsTrue (is_ascii_hexdigit (slice_index bytes (at + 2)))
 
--- a percent sign without two hex digits behind it
+-- a percent sign without two hex digits after it
 abbrev pub IsBadEscape : List ℕ → ℕ → Type 0
 IsBadEscape bytes at = (at < length bytes) × (slice_index bytes at ≡ 37) × (HasDigitsBehind bytes at → ⊥)
 

@@ -2,6 +2,7 @@
 use Rattle.std.specs.Prelude.{◌≡◌, ◌≢◌, ℕ, ◌<◌, ◌≤◌, List, length, EachIndex, slice_index}
 use Rattle.std.specs.Str.{IsUtf8, IsValidUpTo}
 use Rattle.name_rules.specs.Bytes.{IsFirstOther}
+use Rattle.name_rules.specs.declared.file.TheConstants.{MOST_FILE_NAME}
 use Rattle.name_rules.specs.declared.file.NameFault.{NameFault}
 use Rattle.name_rules.specs.declared.file.NameFault.TheVariants.{Empty, Long, NotUtf8, Code}
 
@@ -10,7 +11,7 @@ abbrev pub IsNoCode : ℕ → Type 0
 IsNoCode byte = (32 ≤ byte) × (byte ≢ 127)
 
 abbrev pub HasLength : List ℕ → Type 0
-HasLength bytes = (1 ≤ length bytes) × (length bytes ≤ 1024)
+HasLength bytes = (1 ≤ length bytes) × (length bytes ≤ MOST_FILE_NAME)
 
 -- 1 to 1,024 bytes of UTF-8 without control codes
 pub record IsFileName (bytes : List ℕ) : Type 0 where
@@ -21,6 +22,6 @@ pub record IsFileName (bytes : List ℕ) : Type 0 where
 -- why the bytes are no name
 abbrev pub IsNameFault : List ℕ → NameFault → Type 0
 IsNameFault bytes Empty = length bytes ≡ 0
-IsNameFault bytes Long = 1024 < length bytes
+IsNameFault bytes Long = MOST_FILE_NAME < length bytes
 IsNameFault bytes (NotUtf8 at) = HasLength bytes × (IsUtf8 bytes → ⊥) × IsValidUpTo bytes at
 IsNameFault bytes (Code at) = HasLength bytes × IsUtf8 bytes × IsFirstOther IsNoCode bytes at

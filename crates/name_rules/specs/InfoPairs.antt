@@ -5,6 +5,7 @@ use Rattle.std.specs.List.Sorted.{IsPermutation, IsStrictlySortedBy}
 use Rattle.std.specs.Ordering.{nat_cmp}
 use Rattle.std.specs.Cmp.Lexicographic.{slice_cmp}
 use Rattle.std.specs.Char.{is_ascii_alphanumeric, to_ascii_lowercase}
+use Rattle.name_rules.specs.declared.info.TheConstants.{MOST_PAIRS, MOST_KEY, MOST_INFO}
 use Rattle.name_rules.specs.declared.info.InfoFault.{InfoFault}
 use Rattle.name_rules.specs.declared.info.InfoFault.TheVariants.{TooMany, Key, Repeat, Size}
 
@@ -18,7 +19,7 @@ IsKeyByte byte = IsTrue (is_key_byte byte)
 -- 1 to 50 such bytes
 pub record IsKey (key : List ℕ) : Type 0 where
   pub least : 1 ≤ length key
-  pub most : length key ≤ 50
+  pub most : length key ≤ MOST_KEY
   pub each : EachIndex key (λ i. IsKeyByte (slice_index key i))
 
 abbrev pub lower : List ℕ → List ℕ
@@ -57,18 +58,18 @@ pub record IsFirstNot (P : ℕ → Type 0) (end at : ℕ) : Type 0 where
 
 -- at most 10 pairs with keys that differ, of 7,000 bytes together
 pub record AreInfo (pairs : List (List ℕ × List ℕ)) : Type 0 where
-  pub few : length pairs ≤ 10
+  pub few : length pairs ≤ MOST_PAIRS
   pub keys : AllBefore (HasKey pairs) (length pairs)
   pub apart : AllBefore (IsNew pairs) (length pairs)
-  pub small : size pairs ≤ 7000
+  pub small : size pairs ≤ MOST_INFO
 
 -- why the pairs are none
 abbrev pub IsInfoFault : List (List ℕ × List ℕ) → InfoFault → Type 0
-IsInfoFault pairs TooMany = 10 < length pairs
-IsInfoFault pairs (Key at) = (length pairs ≤ 10) × IsFirstNot (HasKey pairs) (length pairs) at
-IsInfoFault pairs (Repeat at) = (length pairs ≤ 10) × AllBefore (HasKey pairs) (length pairs) × IsFirstNot (IsNew pairs) (length pairs) at
-IsInfoFault pairs (Size bytes) = (length pairs ≤ 10) × AllBefore (HasKey pairs) (length pairs) × AllBefore (IsNew pairs) (length pairs)
-    × (7000 < size pairs) × (bytes ≡ min (size pairs) (2 ^ 64 - 1))
+IsInfoFault pairs TooMany = MOST_PAIRS < length pairs
+IsInfoFault pairs (Key at) = (length pairs ≤ MOST_PAIRS) × IsFirstNot (HasKey pairs) (length pairs) at
+IsInfoFault pairs (Repeat at) = (length pairs ≤ MOST_PAIRS) × AllBefore (HasKey pairs) (length pairs) × IsFirstNot (IsNew pairs) (length pairs) at
+IsInfoFault pairs (Size bytes) = (length pairs ≤ MOST_PAIRS) × AllBefore (HasKey pairs) (length pairs) × AllBefore (IsNew pairs) (length pairs)
+    × (MOST_INFO < size pairs) × (bytes ≡ min (size pairs) (2 ^ 64 - 1))
 
 -- the keys ascend by their bytes
 abbrev pub IsAscending : List (List ℕ × List ℕ) → Type 0
@@ -84,7 +85,7 @@ IsKeptKey key = IsKey key × (lower key ≡ key)
 
 -- pairs as they are kept
 pub record AreKept (pairs : List (List ℕ × List ℕ)) : Type 0 where
-  pub few : length pairs ≤ 10
+  pub few : length pairs ≤ MOST_PAIRS
   pub keys : All (λ pair. IsKeptKey pair.0) pairs
   pub order : IsAscending pairs
-  pub small : size pairs ≤ 7000
+  pub small : size pairs ≤ MOST_INFO

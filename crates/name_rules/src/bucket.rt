@@ -5,9 +5,9 @@ ghost use Rattle.b2_base.specs.Failure.{IfFault};
 ghost use Rattle.name_rules.specs.BucketName.{IsBucketByte, IsReserved, IsBucketName, IsBucketFault};
 ghost use Rattle.name_rules.specs.Bytes.{IsFirstOther};
 
+use crate::name::{Name, NameRule};
 use b2_base::{Or, Text};
 use std::alloc::Global;
-use std::marker::Model;
 
 /// Why bytes are no name of a bucket.
 #[derive(Clone, Copy, Debug, PartialEq, Eq)]
@@ -22,31 +22,24 @@ pub enum BucketFault {
     Char(usize),
 }
 
-/// A bucket's name: 6 to 63 ASCII letters, digits and hyphens, which do not begin with `b2-`.
-#[derive(Debug, Drop)]
-pub struct BucketName {
-    name: Text,
-}
+/// The least bytes of a bucket's name.
+pub const LEAST_BUCKET_NAME: usize = 6;
 
-impl Model for BucketName {
-    ghost use Rattle.std.specs.Prelude.{ℕ, List};
+/// The most bytes of a bucket's name.
+pub const MOST_BUCKET_NAME: usize = 63;
+
+/// The rule of buckets' names.
+#[derive(Clone, Copy, Debug, PartialEq, Eq)]
+pub struct BucketRule;
+
+impl NameRule for BucketRule {
     ghost use Rattle.name_rules.specs.BucketName.{IsBucketName};
 
-    ghost Value = { List ℕ };
-
-    ghost view = { λ n. n.name };
-
-    ghost invariant = { λ n. IsBucketName n.name };
+    ghost is_name = { IsBucketName };
 }
 
-impl BucketName {
-    /// The name's text.
-    pub fn get(&self) -> &str
-        ensures { (result.now ≡ self.now) × IsBucketName self.now }
-    {
-        self.name.get()
-    }
-}
+/// A bucket's name: 6 to 63 ASCII letters, digits and hyphens, which do not begin with `b2-`.
+pub type BucketName = Name<BucketRule>;
 
 fn is_bucket_byte(byte: u8) -> bool
     ensures { IsTrue result ↔ IsBucketByte byte }
@@ -63,7 +56,9 @@ fn is_reserved(bytes: &[u8]) -> bool
 
 // The place of the first byte that no name has.
 fn odd_byte(bytes: &[u8]) -> Option<usize>
-    ensures { MatchOption result (EachIndex bytes.now (λ i. IsBucketByte (slice_index bytes.now i))) (λ at. IsFirstOther IsBucketByte bytes.now at) }
+    ensures { MatchOption result
+        (EachIndex bytes.now (λ i. IsBucketByte (slice_index bytes.now i)))
+        (λ at. IsFirstOther IsBucketByte bytes.now at) }
 {
     let mut at = 0;
     'bytes: while at < bytes.len() {
@@ -80,10 +75,10 @@ pub fn bucket_name(alloc: Global, bytes: &[u8]) -> Result<BucketName, Or<BucketF
     ensures name { IfOk result (λ n. (n ≡ bytes.now) × IsBucketName bytes.now) }
     ensures fault { IfFault result (λ fault. IsBucketFault bytes.now fault) }
 {
-    if bytes.len() < 6 {
+    if bytes.len() < LEAST_BUCKET_NAME {
         return Err(Or::Fault(BucketFault::Short));
     }
-    if bytes.len() > 63 {
+    if bytes.len() > MOST_BUCKET_NAME {
         return Err(Or::Fault(BucketFault::Long));
     }
     if is_reserved(bytes) {
@@ -94,5 +89,5 @@ pub fn bucket_name(alloc: Global, bytes: &[u8]) -> Result<BucketName, Or<BucketF
     }
     let text = str::from_utf8(bytes).unwrap();
     let name = Text::copy(alloc, text)?;
-    Ok(BucketName { name })
+    Ok(BucketName::of(name))
 }

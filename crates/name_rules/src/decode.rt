@@ -12,7 +12,7 @@ use std::alloc::Global;
 /// Why bytes are no escaped name of a file.
 #[derive(Clone, Copy, Debug, PartialEq, Eq)]
 pub enum EscapeFault {
-    /// The percent sign at this place has no two hex digits behind it; it is the first such.
+    /// The percent sign at this place has no two hex digits after it; it is the first such.
     Escape(usize),
     /// What the bytes stand for is no name.
     Name(NameFault),
@@ -38,7 +38,9 @@ fn is_bad_escape(bytes: &[u8], at: usize) -> bool
 
 // The place of the first bad escape.
 fn bad_escape(bytes: &[u8]) -> Option<usize>
-    ensures { MatchOption result (HasNoBadEscape bytes.now (length bytes.now)) (λ at. IsBadEscape bytes.now at × HasNoBadEscape bytes.now at) }
+    ensures { MatchOption result
+        (HasNoBadEscape bytes.now (length bytes.now))
+        (λ at. IsBadEscape bytes.now at × HasNoBadEscape bytes.now at) }
 {
     let mut at = 0;
     'bytes: while at < bytes.len() {

@@ -5,9 +5,9 @@ ghost use Rattle.b2_base.specs.Failure.{IfFault};
 ghost use Rattle.name_rules.specs.Bytes.{IsFirstOther};
 ghost use Rattle.name_rules.specs.FileName.{IsNoCode, IsFileName, IsNameFault};
 
+use crate::name::{Name, NameRule};
 use b2_base::{Or, Text};
 use std::alloc::Global;
-use std::marker::Model;
 
 /// Why bytes are no name of a file.
 #[derive(Clone, Copy, Debug, PartialEq, Eq)]
@@ -22,31 +22,21 @@ pub enum NameFault {
     Code(usize),
 }
 
-/// A file's name: 1 to 1,024 bytes of UTF-8 without control codes of ASCII.
-#[derive(Debug, Drop)]
-pub struct FileName {
-    name: Text,
-}
+/// The most bytes of a file's name.
+pub const MOST_FILE_NAME: usize = 1024;
 
-impl Model for FileName {
-    ghost use Rattle.std.specs.Prelude.{ℕ, List};
+/// The rule of files' names.
+#[derive(Clone, Copy, Debug, PartialEq, Eq)]
+pub struct FileRule;
+
+impl NameRule for FileRule {
     ghost use Rattle.name_rules.specs.FileName.{IsFileName};
 
-    ghost Value = { List ℕ };
-
-    ghost view = { λ n. n.name };
-
-    ghost invariant = { λ n. IsFileName n.name };
+    ghost is_name = { IsFileName };
 }
 
-impl FileName {
-    /// The name's text.
-    pub fn get(&self) -> &str
-        ensures { (result.now ≡ self.now) × IsFileName self.now }
-    {
-        self.name.get()
-    }
-}
+/// A file's name: 1 to 1,024 bytes of UTF-8 without control codes of ASCII.
+pub type FileName = Name<FileRule>;
 
 fn is_no_code(byte: u8) -> bool
     ensures { IsTrue result ↔ IsNoCode byte }
@@ -56,7 +46,9 @@ fn is_no_code(byte: u8) -> bool
 
 // The place of the first control code.
 fn code_at(bytes: &[u8]) -> Option<usize>
-    ensures { MatchOption result (EachIndex bytes.now (λ i. IsNoCode (slice_index bytes.now i))) (λ at. IsFirstOther IsNoCode bytes.now at) }
+    ensures { MatchOption result
+        (EachIndex bytes.now (λ i. IsNoCode (slice_index bytes.now i)))
+        (λ at. IsFirstOther IsNoCode bytes.now at) }
 {
     let mut at = 0;
     'bytes: while at < bytes.len() {
@@ -76,7 +68,7 @@ pub fn file_name(alloc: Global, bytes: &[u8]) -> Result<FileName, Or<NameFault>>
     if bytes.is_empty() {
         return Err(Or::Fault(NameFault::Empty));
     }
-    if bytes.len() > 1024 {
+    if bytes.len() > MOST_FILE_NAME {
         return Err(Or::Fault(NameFault::Long));
     }
     let text = match str::from_utf8(bytes) {
@@ -87,5 +79,5 @@ pub fn file_name(alloc: Global, bytes: &[u8]) -> Result<FileName, Or<NameFault>>
         return Err(Or::Fault(NameFault::Code(at)));
     }
     let name = Text::copy(alloc, text)?;
-    Ok(FileName { name })
+    Ok(FileName::of(name))
 }

@@ -10,6 +10,15 @@ use std::alloc::Global;
 use std::collections::BTreeMap;
 use std::marker::Model;
 
+/// The most pairs of one file or bucket.
+pub const MOST_PAIRS: usize = 10;
+
+/// The most bytes of a key.
+pub const MOST_KEY: usize = 50;
+
+/// The most bytes of all keys and values together.
+pub const MOST_INFO: usize = 7000;
+
 /// Why pairs are no information.
 #[derive(Clone, Copy, Debug, PartialEq, Eq)]
 pub enum InfoFault {
@@ -60,7 +69,7 @@ fn is_key_byte(byte: u8) -> bool
 fn is_key(key: &[u8]) -> bool
     ensures { IsTrue result ↔ IsKey key.now }
 {
-    if key.is_empty() | (key.len() > 50) {
+    if key.is_empty() | (key.len() > MOST_KEY) {
         return false;
     }
     let mut at = 0;
@@ -82,7 +91,9 @@ fn key_of(pairs: &[(Text, Text)], at: usize) -> &[u8]
 
 // The place of the first key that isn't one.
 fn odd_key(pairs: &[(Text, Text)]) -> Option<usize>
-    ensures { MatchOption result (AllBefore (HasKey pairs.now) (length pairs.now)) (IsFirstNot (HasKey pairs.now) (length pairs.now)) }
+    ensures { MatchOption result
+        (AllBefore (HasKey pairs.now) (length pairs.now))
+        (IsFirstNot (HasKey pairs.now) (length pairs.now)) }
 {
     let mut at = 0;
     'pairs: while at < pairs.len() {
@@ -118,7 +129,9 @@ fn is_new(pairs: &[(Text, Text)], at: usize) -> bool
 
 // The place of the first key that stands before.
 fn repeated_key(pairs: &[(Text, Text)]) -> Option<usize>
-    ensures { MatchOption result (AllBefore (IsNew pairs.now) (length pairs.now)) (IsFirstNot (IsNew pairs.now) (length pairs.now)) }
+    ensures { MatchOption result
+        (AllBefore (IsNew pairs.now) (length pairs.now))
+        (IsFirstNot (IsNew pairs.now) (length pairs.now)) }
 {
     let mut at = 0;
     'pairs: while at < pairs.len() {
@@ -181,7 +194,7 @@ pub fn info_pairs(alloc: Global, pairs: &[(Text, Text)]) -> Result<InfoPairs, Or
     ensures pairs { IfOk result (λ i. AreInfo pairs.now × IsArranged pairs.now i) }
     ensures fault { IfFault result (IsInfoFault pairs.now) }
 {
-    if pairs.len() > 10 {
+    if pairs.len() > MOST_PAIRS {
         return Err(Or::Fault(InfoFault::TooMany));
     }
     if let Some(at) = odd_key(pairs) {
@@ -191,7 +204,7 @@ pub fn info_pairs(alloc: Global, pairs: &[(Text, Text)]) -> Result<InfoPairs, Or
         return Err(Or::Fault(InfoFault::Repeat(at)));
     }
     let bytes = bytes_of(pairs);
-    if bytes > 7000 {
+    if bytes > MOST_INFO {
         return Err(Or::Fault(InfoFault::Size(bytes)));
     }
     let map = ordered(alloc, pairs)?;

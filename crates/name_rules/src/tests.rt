@@ -75,10 +75,13 @@ fn escapes(rt: HostRuntime) -> Result<(), Fail> {
 
 #[test]
 fn folders(rt: HostRuntime) -> Result<(), Fail> {
-    assert!(rt; is_prefix(b"", b"a") && is_prefix(b"a", b"a") && !is_prefix(b"ab", b"a"));
+    assert!(rt; is_prefix(b"", b"a") && is_prefix(b"a", b"a"));
+    assert!(rt; !is_prefix(b"ab", b"a") && !is_prefix(b"a", b""));
     assert_eq!(rt; folder_of(b"a/b/c", b"", b"/"), Some(2));
     assert_eq!(rt; folder_of(b"a/b/c", b"a/", b"/"), Some(4));
     assert_eq!(rt; folder_of(b"a/b/c", b"a/b/", b"/"), None);
+    assert_eq!(rt; folder_of(b"a//b", b"a", b"//"), Some(3));
+    assert_eq!(rt; folder_of(b"a", b"a/b", b"/"), None);
     Ok(())
 }
 
@@ -117,6 +120,7 @@ fn information(rt: HostRuntime) -> Result<(), Fail> {
         ("a=&b=&c=&d=&e=&f=&g=&h=&i=&j=&K=", InfoFault::TooMany),
         ("a=1&A=2", InfoFault::Repeat(1)),
         ("a b=1&=2", InfoFault::Key(0)),
+        ("a=1&b/c=2", InfoFault::Key(1)),
         ("a=1&a=2&é=3", InfoFault::Key(2)),
     ] {
         assert_eq!(rt; fault_of(alloc, rows)?, fault);

@@ -11,7 +11,7 @@ pub trait Clock {
     /// The reading that it gave last: 0 before the first.
     ghost last: { Self → ℕ };
 
-    /// The next reading, in milliseconds since 1970. It cannot fail: behind the readings ahead it is the
+    /// The next reading, in milliseconds since 1970. It cannot fail: after the readings ahead it is the
     /// last one again. Readings may fall.
     fn now(&mut self) -> u64
         ensures { GivesReading (ahead self.old) (last self.old) result (ahead self.new) (last self.new) };

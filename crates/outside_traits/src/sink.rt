@@ -1,6 +1,6 @@
 //! What is written to.
 
-ghost use Rattle.std.specs.Prelude.{◌≡◌, ◌<◌, ◌≤◌, ◌⊎◌, ℕ, List, [], Option, Some, length, IfOk, OnErr, OnOk, Contains};
+ghost use Rattle.std.specs.Prelude.{◌≡◌, ◌<◌, ◌≤◌, ◌⊎◌, ℕ, List, [], Option, Some, length, IfOk, OnErr, OnOk, IsErr};
 ghost use Rattle.std.specs.Io.{WritesAtMost};
 ghost use Rattle.std.specs.Io.KnownBytes.{Appends, WriteAppends};
 ghost use Rattle.outside_traits.specs.Bytes.{AppendsFront};
@@ -63,7 +63,7 @@ impl MemSink {
 }
 
 impl Sink for MemSink {
-    ghost use Rattle.outside_traits.specs.Memory.{sink_bytes, sink_calls};
+    ghost use Rattle.outside_traits.specs.Memory.{IsToFail, sink_bytes, sink_calls};
 
     ghost contents = { λ s. Some (sink_bytes s) };
 
@@ -72,11 +72,12 @@ impl Sink for MemSink {
     fn write(&mut self, bytes: &[u8]) -> Result<usize, Failed>
         ensures bound { WritesAtMost result bytes.now }
         ensures taken { IfOk result (λ n. 0 < length bytes.now → 0 < n) }
-        ensures bytes { WriteAppends (Some (sink_bytes self.old)) (Some (sink_bytes self.new)) result bytes.now }
+        ensures bytes { WriteAppends
+            (Some (sink_bytes self.old)) (Some (sink_bytes self.new)) result bytes.now }
         ensures cause { HasCause (sink_calls self.old).faults (sink_calls self.new).faults result }
         ensures all { IfOk result (λ n. n ≡ length bytes.now) }
-        ensures listed { Contains (sink_calls self.old).fails.items (raised (sink_calls self.old).made) → OnOk result (length bytes.now < 0) }
-        ensures fails { OnErr result (Contains (sink_calls self.old).fails.items (raised (sink_calls self.old).made)
+        ensures listed { IsToFail (sink_calls self.old) → IsErr result }
+        ensures fails { OnErr result (IsToFail (sink_calls self.old)
             ⊎ Rose (sink_calls self.old).short (sink_calls self.new).short) }
         ensures counted { (sink_calls self.new).made ≡ raised (sink_calls self.old).made }
         ensures same { (sink_calls self.new).fails ≡ (sink_calls self.old).fails }

@@ -1,6 +1,6 @@
 //! What is read from.
 
-ghost use Rattle.std.specs.Prelude.{◌≡◌, ◌<◌, ◌≤◌, ◌-◌, ◌↔◌, ℕ, List, Option, Some, min, length, take, drop, IsErr, Contains};
+ghost use Rattle.std.specs.Prelude.{◌≡◌, ◌<◌, ◌≤◌, ◌-◌, ◌↔◌, ℕ, List, Option, Some, min, length, take, drop, IsErr};
 ghost use Rattle.std.specs.Io.{ReadsAtMost};
 ghost use Rattle.std.specs.Io.KnownBytes.{ReadConsumes};
 ghost use Rattle.outside_traits.specs.Causes.{raised, HasCause};
@@ -69,7 +69,7 @@ fn copy_from(bytes: &[u8], at: usize, buf: &mut [u8]) -> usize
 }
 
 impl Source for MemSource {
-    ghost use Rattle.outside_traits.specs.Memory.{source_left, source_calls};
+    ghost use Rattle.outside_traits.specs.Memory.{IsToFail, source_left, source_calls};
 
     ghost left = { λ s. Some (source_left s) };
 
@@ -77,9 +77,10 @@ impl Source for MemSource {
 
     fn read(&mut self, buf: &mut [u8]) -> Result<usize, Failed>
         ensures bound { ReadsAtMost result buf.new }
-        ensures bytes { ReadConsumes (Some (source_left self.old)) (Some (source_left self.new)) result buf.new }
+        ensures bytes { ReadConsumes
+            (Some (source_left self.old)) (Some (source_left self.new)) result buf.new }
         ensures cause { HasCause (source_calls self.old).faults (source_calls self.new).faults result }
-        ensures fails { IsErr result ↔ Contains (source_calls self.old).fails.items (raised (source_calls self.old).made) }
+        ensures fails { IsErr result ↔ IsToFail (source_calls self.old) }
         ensures counted { (source_calls self.new).made ≡ raised (source_calls self.old).made }
         ensures same { (source_calls self.new).fails ≡ (source_calls self.old).fails }
         ensures short { (source_calls self.new).short ≡ (source_calls self.old).short }

@@ -1,6 +1,6 @@
-//! The lists, to their ends and behind them.
+//! The lists, to their ends and after them, and a sink.
 
-use crate::{Clock, ListClock, ListWords, Words};
+use crate::{Clock, Failed, ListClock, ListWords, MemSink, Sink, Words};
 use std::test::Fail;
 
 #[test]
@@ -14,5 +14,16 @@ fn lists(rt: HostRuntime) -> Result<(), Fail> {
     }
     let mut empty = ListClock::new(Vec::new(alloc));
     assert_eq!(rt; empty.now(), 0);
+    Ok(())
+}
+
+#[test]
+fn takes(rt: HostRuntime) -> Result<(), Fail> {
+    let alloc = rt.alloc();
+    let mut sink = MemSink::new(alloc, vec![in alloc; 2]?);
+    assert_eq!(rt; sink.write(b"ab"), Ok(2));
+    assert_eq!(rt; sink.write(b"cd"), Err(Failed));
+    assert_eq!(rt; sink.write(b"ef"), Ok(2));
+    assert_eq!(rt; sink.bytes(), b"abef".as_slice());
     Ok(())
 }

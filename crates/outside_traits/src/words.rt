@@ -8,7 +8,7 @@ pub trait Words {
     /// The words ahead, where the object tells them.
     ghost ahead: { Self → Option (List ℕ) };
 
-    /// The next word. It cannot fail: behind the words ahead come zeros.
+    /// The next word. It cannot fail: after the words ahead come zeros.
     fn next(&mut self) -> u64
         ensures { GivesWord (ahead self.old) result (ahead self.new) };
 }

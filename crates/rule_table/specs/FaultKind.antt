@@ -2,15 +2,15 @@
 use Rattle.std.proofs.Common.{◌≡◌, ℕ, List, [], ◌∷◌, Some, slice_get, codes, refl, arith}
 use Rattle.rule_table.specs.Order.{found_at}
 use Rattle.rule_table.specs.declared.fault.FaultKind.{FaultKind}
-use Rattle.rule_table.specs.declared.fault.FaultKind.TheVariants.{BadHead, LongHead, BadLength, NoCall, BadMethod, NotJson, Missing, Wrong, BadHeader, Unsupported, P1, P2, P3, P4, P5, P6, P7, P8, P9, P10, P11, P12, P13, P14, NoBucket, NoFile, NoKey, Duplicate, TooManyBuckets, Conflict, NotEmpty, Hidden, NotLarge, NoParts, Gap, Count, Sha, Small, BadDigest, LockOff, LockStays, BadUntil, KeyCaps, KeyLimit, Master, Range, Busy, Cap}
+use Rattle.rule_table.specs.declared.fault.FaultKind.TheVariants.{BadHead, LongHead, BadLength, NoCall, BadMethod, NotJson, Missing, Wrong, BadHeader, Unsupported, P1, P2, P3, P4, P5, P6, P7, P8, P9, P10, P11, P12, P13, P14, NoBucket, NoFile, NoKey, Duplicate, TooManyBuckets, Conflict, NotEmpty, Hidden, NotLarge, NoParts, Gap, Count, Sha, Small, BadDigest, LockOff, LockStays, BadUntil, KeyCaps, KeyLimit, Master, Range, Busy, Cap, ManyBuckets, LongCopy}
 
 -- the values, by their places
 abbrev pub fault_order : List FaultKind
-fault_order = BadHead ∷ LongHead ∷ BadLength ∷ NoCall ∷ BadMethod ∷ NotJson ∷ Missing ∷ Wrong ∷ BadHeader ∷ Unsupported ∷ P1 ∷ P2 ∷ P3 ∷ P4 ∷ P5 ∷ P6 ∷ P7 ∷ P8 ∷ P9 ∷ P10 ∷ P11 ∷ P12 ∷ P13 ∷ P14 ∷ NoBucket ∷ NoFile ∷ NoKey ∷ Duplicate ∷ TooManyBuckets ∷ Conflict ∷ NotEmpty ∷ Hidden ∷ NotLarge ∷ NoParts ∷ Gap ∷ Count ∷ Sha ∷ Small ∷ BadDigest ∷ LockOff ∷ LockStays ∷ BadUntil ∷ KeyCaps ∷ KeyLimit ∷ Master ∷ Range ∷ Busy ∷ Cap ∷ []
+fault_order = BadHead ∷ LongHead ∷ BadLength ∷ NoCall ∷ BadMethod ∷ NotJson ∷ Missing ∷ Wrong ∷ BadHeader ∷ Unsupported ∷ P1 ∷ P2 ∷ P3 ∷ P4 ∷ P5 ∷ P6 ∷ P7 ∷ P8 ∷ P9 ∷ P10 ∷ P11 ∷ P12 ∷ P13 ∷ P14 ∷ NoBucket ∷ NoFile ∷ NoKey ∷ Duplicate ∷ TooManyBuckets ∷ Conflict ∷ NotEmpty ∷ Hidden ∷ NotLarge ∷ NoParts ∷ Gap ∷ Count ∷ Sha ∷ Small ∷ BadDigest ∷ LockOff ∷ LockStays ∷ BadUntil ∷ KeyCaps ∷ KeyLimit ∷ Master ∷ Range ∷ Busy ∷ Cap ∷ ManyBuckets ∷ LongCopy ∷ []
 
 -- their names, in the same order
 abbrev pub fault_names : List (List ℕ)
-fault_names = codes "BadHead" ∷ codes "LongHead" ∷ codes "BadLength" ∷ codes "NoCall" ∷ codes "BadMethod" ∷ codes "NotJson" ∷ codes "Missing" ∷ codes "Wrong" ∷ codes "BadHeader" ∷ codes "Unsupported" ∷ codes "P1" ∷ codes "P2" ∷ codes "P3" ∷ codes "P4" ∷ codes "P5" ∷ codes "P6" ∷ codes "P7" ∷ codes "P8" ∷ codes "P9" ∷ codes "P10" ∷ codes "P11" ∷ codes "P12" ∷ codes "P13" ∷ codes "P14" ∷ codes "NoBucket" ∷ codes "NoFile" ∷ codes "NoKey" ∷ codes "Duplicate" ∷ codes "TooManyBuckets" ∷ codes "Conflict" ∷ codes "NotEmpty" ∷ codes "Hidden" ∷ codes "NotLarge" ∷ codes "NoParts" ∷ codes "Gap" ∷ codes "Count" ∷ codes "Sha" ∷ codes "Small" ∷ codes "BadDigest" ∷ codes "LockOff" ∷ codes "LockStays" ∷ codes "BadUntil" ∷ codes "KeyCaps" ∷ codes "KeyLimit" ∷ codes "Master" ∷ codes "Range" ∷ codes "Busy" ∷ codes "Cap" ∷ []
+fault_names = codes "BadHead" ∷ codes "LongHead" ∷ codes "BadLength" ∷ codes "NoCall" ∷ codes "BadMethod" ∷ codes "NotJson" ∷ codes "Missing" ∷ codes "Wrong" ∷ codes "BadHeader" ∷ codes "Unsupported" ∷ codes "P1" ∷ codes "P2" ∷ codes "P3" ∷ codes "P4" ∷ codes "P5" ∷ codes "P6" ∷ codes "P7" ∷ codes "P8" ∷ codes "P9" ∷ codes "P10" ∷ codes "P11" ∷ codes "P12" ∷ codes "P13" ∷ codes "P14" ∷ codes "NoBucket" ∷ codes "NoFile" ∷ codes "NoKey" ∷ codes "Duplicate" ∷ codes "TooManyBuckets" ∷ codes "Conflict" ∷ codes "NotEmpty" ∷ codes "Hidden" ∷ codes "NotLarge" ∷ codes "NoParts" ∷ codes "Gap" ∷ codes "Count" ∷ codes "Sha" ∷ codes "Small" ∷ codes "BadDigest" ∷ codes "LockOff" ∷ codes "LockStays" ∷ codes "BadUntil" ∷ codes "KeyCaps" ∷ codes "KeyLimit" ∷ codes "Master" ∷ codes "Range" ∷ codes "Busy" ∷ codes "Cap" ∷ codes "ManyBuckets" ∷ codes "LongCopy" ∷ []
 
 abbrev pub fault_place : FaultKind → ℕ
 fault_place BadHead = 0
@@ -61,6 +61,8 @@ fault_place Master = 44
 fault_place Range = 45
 fault_place Busy = 46
 fault_place Cap = 47
+fault_place ManyBuckets = 48
+fault_place LongCopy = 49
 
 pub fault_there : (e : FaultKind) → slice_get fault_order (fault_place e) ≡ Some e
 fault_there BadHead = refl
@@ -111,6 +113,8 @@ fault_there Master = refl
 fault_there Range = refl
 fault_there Busy = refl
 fault_there Cap = refl
+fault_there ManyBuckets = refl
+fault_there LongCopy = refl
 
 pub fault_here : (i : ℕ) (e : FaultKind) → slice_get fault_order i ≡ Some e → fault_place e ≡ i
-fault_here i e found = omega (arith, found_at fault_place 0 48 fault_order refl i e found)
+fault_here i e found = omega (arith, found_at fault_place 0 50 fault_order refl i e found)

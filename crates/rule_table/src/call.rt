@@ -6,7 +6,7 @@ ghost use Rattle.rule_table.specs.CallName.{call_names};
 use crate::placed::Placed;
 use crate::table::Table;
 
-/// A call of the B2 Native API, version 3.
+/// A call of the B2 Native API.
 #[derive(Clone, Copy, Debug, PartialEq, Eq)]
 pub enum CallName {
     AuthorizeAccount,
@@ -36,6 +36,8 @@ pub enum CallName {
     DownloadFileByName,
     UpdateFileRetention,
     UpdateFileLegalHold,
+    CopyFile,
+    CopyPart,
 }
 
 impl Placed for CallName {
@@ -83,6 +85,8 @@ impl Placed for CallName {
             CallName::DownloadFileByName,
             CallName::UpdateFileRetention,
             CallName::UpdateFileLegalHold,
+            CallName::CopyFile,
+            CallName::CopyPart,
         ]
         .get(place)
         .copied()
@@ -90,7 +94,7 @@ impl Placed for CallName {
 }
 
 /// The calls and the names that stand in their paths.
-pub fn calls() -> Table<CallName, 27>
+pub fn calls() -> Table<CallName, 29>
     ensures { result ≡ call_names }
 {
     Table::new(&[
@@ -121,5 +125,7 @@ pub fn calls() -> Table<CallName, 27>
         "b2_download_file_by_name",
         "b2_update_file_retention",
         "b2_update_file_legal_hold",
+        "b2_copy_file",
+        "b2_copy_part",
     ])
 }

@@ -6,6 +6,9 @@ ghost use Rattle.rule_table.specs.Cap.{cap_names, cap_order};
 use crate::placed::Placed;
 use crate::table::Table;
 
+/// How many capabilities there are.
+pub const CAPS: usize = 26;
+
 /// What a key lets its holder do. Names and order are those of the B2 reference.
 #[derive(Clone, Copy, Debug, PartialEq, Eq)]
 pub enum Cap {
@@ -59,7 +62,7 @@ impl Placed for Cap {
 }
 
 /// All capabilities, in the order of their table.
-pub fn every_cap() -> [Cap; 26]
+pub fn every_cap() -> [Cap; CAPS]
     ensures { result ≡ cap_order }
 {
     [
@@ -93,7 +96,7 @@ pub fn every_cap() -> [Cap; 26]
 }
 
 /// The capabilities and their names.
-pub fn caps() -> Table<Cap, 26>
+pub fn caps() -> Table<Cap, CAPS>
     ensures { result ≡ cap_names }
 {
     Table::new(&[

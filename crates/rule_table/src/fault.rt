@@ -105,6 +105,10 @@ pub enum FaultKind {
     Busy,
     /// No number is left.
     Cap,
+    /// Key has several buckets.
+    ManyBuckets,
+    /// Copy is too long.
+    LongCopy,
 }
 
 impl Placed for FaultKind {
@@ -173,6 +177,8 @@ impl Placed for FaultKind {
             FaultKind::Range,
             FaultKind::Busy,
             FaultKind::Cap,
+            FaultKind::ManyBuckets,
+            FaultKind::LongCopy,
         ]
         .get(place)
         .copied()
@@ -180,7 +186,7 @@ impl Placed for FaultKind {
 }
 
 /// The kinds of faults and their names.
-pub fn faults() -> Table<FaultKind, 48>
+pub fn faults() -> Table<FaultKind, 50>
     ensures { result ≡ fault_names }
 {
     Table::new(&[
@@ -232,5 +238,7 @@ pub fn faults() -> Table<FaultKind, 48>
         "Range",
         "Busy",
         "Cap",
+        "ManyBuckets",
+        "LongCopy",
     ])
 }

@@ -10,7 +10,7 @@ mod placed;
 mod table;
 
 pub use call::{CallName, calls};
-pub use cap::{Cap, caps, every_cap};
+pub use cap::{CAPS, Cap, caps, every_cap};
 pub use cap_set::CapSet;
 pub use fault::{FaultKind, faults};
 pub use file_kind::{FileKind, types};

@@ -6,8 +6,8 @@ ghost use Rattle.rule_table.specs.Rows.{texts, AreApart, IsFull, IsRow};
 use crate::placed::Placed;
 use std::marker::{Model, PhantomData};
 
-/// N values and the name of each. A row's value is the one at the row's place, so names alone are kept,
-/// and clauses see a table as its names in order.
+/// N values and the name of each. A row's value is the one at the row's place, so names alone are
+/// kept, and clauses see a table as its names in order.
 #[derive(Drop)]
 pub struct Table<E: Placed, const N: usize> {
     names: &'static [&'static str],
@@ -25,7 +25,8 @@ impl<E: Placed, const N: usize> Model for Table<E, N> {
 
     ghost view = { λ t. texts t.names.now };
 
-    ghost invariant = { λ t. (length t.names.now ≡ N) × IsFull E.at_place N × AreApart (texts t.names.now) };
+    ghost invariant = { λ t.
+        (length t.names.now ≡ N) × IsFull E.at_place N × AreApart (texts t.names.now) };
 }
 
 impl<E: Placed, const N: usize> Table<E, N> {
@@ -44,7 +45,9 @@ impl<E: Placed, const N: usize> Table<E, N> {
 
     /// The value of the name.
     pub fn find(&self, name: &[u8]) -> Option<E>
-        ensures found { MatchOption result ((e : E) → IsRow self.now (E.place_of e) name.now → ⊥) (λ e. IsRow self.now (E.place_of e) name.now) }
+        ensures found { MatchOption result
+            ((e : E) → IsRow self.now (E.place_of e) name.now → ⊥)
+            (λ e. IsRow self.now (E.place_of e) name.now) }
         ensures only { (e : E) → IsRow self.now (E.place_of e) name.now → result ≡ Some e }
     {
         let at = place_in(self.names, name)?;
@@ -69,7 +72,9 @@ impl<E: Placed, const N: usize> Table<E, N> {
 
 // The first place of the name among these.
 fn place_in(names: &[&str], name: &[u8]) -> Option<usize>
-    ensures { MatchOption result ((i : ℕ) → IsRow (texts names.now) i name.now → ⊥) (λ i. IsRow (texts names.now) i name.now) }
+    ensures { MatchOption result
+        ((i : ℕ) → IsRow (texts names.now) i name.now → ⊥)
+        (λ i. IsRow (texts names.now) i name.now) }
 {
     let mut at = 0;
     'rows: while at < names.len() {

@@ -15,9 +15,27 @@ fn rows(rt: HostRuntime) -> Result<(), Fail> {
         assert_eq!(rt; table.find(name.as_bytes()), cap);
     }
     assert_eq!(rt; table.name(Cap::ShareFiles), b"shareFiles".as_slice());
-    assert_eq!(rt; calls().find(b"b2_upload_part"), Some(CallName::UploadPart));
-    assert_eq!(rt; faults().find(b"P14"), Some(FaultKind::P14));
-    assert_eq!(rt; types().find(b"jpeg"), Some(FileKind::Jpeg));
+    for (name, call) in [
+        ("b2_authorize_account", Some(CallName::AuthorizeAccount)),
+        ("b2_upload_part", Some(CallName::UploadPart)),
+        ("b2_copy_part", Some(CallName::CopyPart)),
+        ("b2_copy_parts", None),
+    ] {
+        assert_eq!(rt; calls().find(name.as_bytes()), call);
+    }
+    assert_eq!(rt; calls().names().len(), 29);
+    for (name, fault) in [
+        ("BadHead", Some(FaultKind::BadHead)),
+        ("P14", Some(FaultKind::P14)),
+        ("LongCopy", Some(FaultKind::LongCopy)),
+        ("P15", None),
+    ] {
+        assert_eq!(rt; faults().find(name.as_bytes()), fault);
+    }
+    assert_eq!(rt; faults().names().len(), 50);
+    for (name, kind) in [("htm", FileKind::Htm), ("html", FileKind::Html)] {
+        assert_eq!(rt; types().find(name.as_bytes()), Some(kind));
+    }
     Ok(())
 }
 
@@ -30,6 +48,7 @@ fn sets(rt: HostRuntime) -> Result<(), Fail> {
     assert!(rt; !one.has(Cap::ReadFiles));
     assert!(rt; none.subset(&one) && one.subset(&two));
     assert!(rt; !two.subset(&one));
+    assert!(rt; !none.with(Cap::BypassGovernance).subset(&two));
     assert_eq!(rt; one.with(Cap::ListFiles), one);
     Ok(())
 }
