@@ -1,0 +1,6 @@
+pub mod FaultTable
+pub mod Fault
+pub mod Answer
+pub mod Need
+pub mod Naming
+pub mod KeyId
