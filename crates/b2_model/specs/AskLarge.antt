@@ -3,28 +3,28 @@
 use Rattle.std.specs.Prelude.{ℕ, false, not, List, [], ◌∷◌, ◌++◌, Option, unwrap_or, option_map, option_and_then, map, codes}
 use Rattle.rule_table.specs.declared.fault.FaultKind.TheVariants.{NotLarge}
 use Rattle.b2_base.specs.FileId.{file_id}
-use Rattle.b2_model.specs.declared.kinds.TokenKind.TheVariants as token
-use Rattle.b2_model.specs.declared.kinds.Action.TheVariants as action
-use Rattle.b2_model.specs.declared.kinds.Mark.TheVariants as mark
-use Rattle.b2_model.specs.declared.kinds.Retention.{Retention}
-use Rattle.b2_model.specs.declared.key.Key.{Key}
-use Rattle.b2_model.specs.declared.key.Grant.{Grant}
-use Rattle.b2_model.specs.declared.version.VersionOf.{VersionOf}
-use Rattle.b2_model.specs.declared.call.StartCall.{StartCall}
-use Rattle.b2_model.specs.declared.call.FileCall.{FileCall}
-use Rattle.b2_model.specs.declared.call.ListParts.{ListParts}
-use Rattle.b2_model.specs.declared.call.FinishCall.{FinishCall}
-use Rattle.b2_model.specs.declared.record.NewVersion.{NewVersion}
-use Rattle.b2_model.specs.declared.record.ChangeOf.TheVariants as change
-use Rattle.b2_model.specs.declared.shown.AnswerOf.TheVariants as answer
+use Rattle.b2_types.specs.declared.kinds.TokenKind.TheVariants as token
+use Rattle.b2_types.specs.declared.kinds.Action.TheVariants as action
+use Rattle.b2_types.specs.declared.kinds.Mark.TheVariants as mark
+use Rattle.b2_types.specs.declared.kinds.Retention.{Retention}
+use Rattle.b2_types.specs.declared.key.Key.{Key}
+use Rattle.b2_types.specs.declared.key.Grant.{Grant}
+use Rattle.b2_types.specs.declared.version.VersionOf.{VersionOf}
+use Rattle.b2_types.specs.declared.call.StartCall.{StartCall}
+use Rattle.b2_types.specs.declared.call.FileCall.{FileCall}
+use Rattle.b2_types.specs.declared.call.ListParts.{ListParts}
+use Rattle.b2_types.specs.declared.call.FinishCall.{FinishCall}
+use Rattle.b2_types.specs.declared.record.NewVersion.{NewVersion}
+use Rattle.b2_types.specs.declared.record.ChangeOf.TheVariants as change
+use Rattle.b2_types.specs.declared.shown.Shown.TheVariants as shown
 use Rattle.b2_model.specs.Kinds.{is_start, day, later}
 use Rattle.b2_model.specs.Checks.{Check, check}
 use Rattle.b2_model.specs.State.{State, bucket_at}
 use Rattle.b2_model.specs.Locks.{own_or_default}
 use Rattle.b2_model.specs.Pages.{parts_page}
-use Rattle.b2_model.specs.Pass.{twenty_zeros}
-use Rattle.b2_model.specs.Finish.{finish_rules, finished}
-use Rattle.b2_model.specs.Changes.{made}
+use Rattle.b2_model.specs.Finish.{finish_rules, finished_file}
+use Rattle.b2_model.specs.MediaTypes.{resolved_type}
+use Rattle.b2_model.specs.Version.{no_digest, version_from}
 use Rattle.b2_model.specs.Shown.{shown_file, shown_part, shown_name}
 use Rattle.b2_model.specs.Plan.{Plan, shows, writes, grants, on_bucket, on_file, id_of, no_serial, no_version, lock_off, bad_until, new_token, key_num}
 
@@ -36,7 +36,7 @@ new_start M c = record {
   bucket = c.bucket;
   num = M.next_version;
   name = c.name;
-  kind = c.kind;
+  kind = resolved_type c.kind c.name;
   info = unwrap_or c.info [];
   retention = c.retention;
   hold = unwrap_or c.hold false;
@@ -46,7 +46,7 @@ abbrev pub start_large_file : {C : Type 0} → (C → ℕ) → State C → Optio
 start_large_file size M key t c = on_bucket M c.bucket (λ b. writes
     (lock_off c.retention (unwrap_or c.hold false) b.lock ∷ bad_until t c.retention ∷ no_version M ∷ [])
     (change.Start (new_start M c))
-    (answer.File (shown_file size M.settings key (made t action.Start [] mark.Large twenty_zeros (new_start M c)))))
+    (shown.File (shown_file size M.settings key (version_from t action.Start [] mark.Large no_digest (new_start M c)))))
 
 abbrev pub part_grant : {C : Type 0} → State C → ℕ → List ℕ → Option Key → VersionOf C → Grant
 part_grant M t words key v = record {
@@ -66,12 +66,13 @@ abbrev pub get_upload_part_url : {C : Type 0} → State C → Option Key → ℕ
 get_upload_part_url M key t words c = on_file M c.bucket c.file (λ v. grants
     (not_large v ∷ no_serial M ∷ [])
     (part_grant M t words key v)
-    (answer.PartUrl v.bucket v.num (new_token M words) (part_url M v)))
+    (shown.PartUrl (record { file = id_of v; token = new_token M words; url = part_url M v })))
 
 abbrev pub list_parts : {C : Type 0} → (C → ℕ) → State C → ListParts → Plan C
 list_parts size M c = on_file M c.bucket c.file (λ v.
     let page = parts_page v (unwrap_or c.start 0) c.max in
-    shows (not_large v ∷ []) (answer.Parts (map (shown_part size v.bucket v.num) page.rows) (option_map (λ p. p.number) page.next)))
+    shows (not_large v ∷ [])
+    (shown.Parts (map (shown_part size v.bucket v.num) page.rows) (option_map (λ p. p.number) page.next)))
 
 -- the retention of a finished file: its own, or the bucket's default from now on
 abbrev pub at_finish : {C : Type 0} → State C → ℕ → VersionOf C → Option Retention
@@ -81,7 +82,10 @@ abbrev pub finish_large_file : {C : Type 0} → (C → ℕ) → State C → Opti
 finish_large_file size M key t c = on_file M c.bucket c.file (λ v. writes
     (finish_rules size M.settings.part_min c.digests v)
     (change.Finish (id_of v) (at_finish M t v))
-    (answer.File (shown_file size M.settings key (finished (at_finish M t v) v))))
+    (shown.File (shown_file size M.settings key (finished_file (at_finish M t v) v))))
 
 abbrev pub cancel_large_file : {C : Type 0} → State C → FileCall → Plan C
-cancel_large_file M c = on_file M c.bucket c.file (λ v. writes (not_large v ∷ []) (change.Cancel (id_of v)) (answer.Cancelled M.settings.account (shown_name v)))
+cancel_large_file M c = on_file M c.bucket c.file (λ v. writes
+    (not_large v ∷ [])
+    (change.Cancel (id_of v))
+    (shown.Cancelled (record { account = M.settings.account; file = shown_name v })))

@@ -1,30 +1,19 @@
 -- Rules that are judged in their order, of which the first that fails is told.
-use Rattle.std.specs.Prelude.{◌≡◌, ◌++◌, All, ℕ, Bool, true, false, List, [], ◌∷◌, Option, Some, None, option_map, find}
+use Rattle.std.specs.Prelude.{◌≡◌, ◌++◌, All, ℕ, Bool, true, false, List, ◌∷◌, Option, Some, None, option_map, find}
 use Rattle.rule_table.specs.declared.fault.FaultKind.{FaultKind}
-use Rattle.b2_model.specs.declared.fault.Fault.{Fault}
+use Rattle.b2_types.specs.declared.fault.Fault.{Fault}
+use Rattle.b2_types.specs.Fault.{plain, with_number}
 
 -- whether a rule fails, and the fault that says so
 pub record Check : Type 0 where
   pub fails : Bool
   pub fault : Fault
 
--- a fault that carries nothing
-abbrev pub plain : FaultKind → Fault
-plain kind = record { kind = kind; word = []; number = 0 }
-
--- a fault that carries a number
-abbrev pub numbered : FaultKind → ℕ → Fault
-numbered kind number = record { kind = kind; word = []; number = number }
-
--- a fault that carries a word
-abbrev pub worded : FaultKind → List ℕ → Fault
-worded kind word = record { kind = kind; word = word; number = 0 }
-
 abbrev pub check : FaultKind → Bool → Check
 check kind fails = record { fails = fails; fault = plain kind }
 
 abbrev pub check_number : FaultKind → ℕ → Bool → Check
-check_number kind number fails = record { fails = fails; fault = numbered kind number }
+check_number kind number fails = record { fails = fails; fault = with_number kind number }
 
 -- the fault of the first rule that fails
 abbrev pub first_fault : List Check → Option Fault
@@ -44,8 +33,8 @@ or_else (Some x) other = Some x
 pub record IsFirstFailing (checks : List Check) (fault : Fault) : Type 0 where
   pub before : List Check
   pub at : Check
-  pub behind : List Check
-  pub is : checks ≡ before ++ at ∷ behind
+  pub after : List Check
+  pub is : checks ≡ before ++ at ∷ after
   pub pass : All (λ c. c.fails ≡ false) before
   pub fails : at.fails ≡ true
   pub told : at.fault ≡ fault

@@ -1,13 +1,13 @@
 -- The machine under a change of what stands for a piece of content, such as from bytes to extents.
-use Rattle.std.specs.Prelude.{map, option_map}
-use Rattle.b2_model.specs.declared.version.PartOf.{PartOf}
-use Rattle.b2_model.specs.declared.version.VersionOf.{VersionOf}
-use Rattle.b2_model.specs.declared.record.ChangeOf.{ChangeOf}
-use Rattle.b2_model.specs.declared.record.ChangeOf.TheVariants as change
-use Rattle.b2_model.specs.declared.shown.ContentOf.{ContentOf}
-use Rattle.b2_model.specs.declared.shown.AnswerOf.{AnswerOf}
-use Rattle.b2_model.specs.declared.shown.AnswerOf.TheVariants as answer
-use Rattle.b2_model.specs.State.{State}
+use Rattle.std.specs.Prelude.{◌≡◌, ℕ, List, map, option_map}
+use Rattle.b2_types.specs.declared.version.PartOf.{PartOf}
+use Rattle.b2_types.specs.declared.version.VersionOf.{VersionOf}
+use Rattle.b2_types.specs.declared.record.ChangeOf.{ChangeOf}
+use Rattle.b2_types.specs.declared.record.ChangeOf.TheVariants as change
+use Rattle.b2_types.specs.declared.answer.ContentOf.{ContentOf}
+use Rattle.b2_types.specs.declared.answer.AnswerOf.{AnswerOf}
+use Rattle.b2_types.specs.declared.answer.AnswerOf.TheVariants as answer
+use Rattle.b2_model.specs.State.{State, Pieces}
 use Rattle.b2_model.specs.Pages.{Row, file, folder}
 use Rattle.b2_model.specs.Plan.{Plan}
 use Rattle.b2_model.specs.Ask.{Outcome}
@@ -76,34 +76,16 @@ change_by f (change.Hold id hold) = change.Hold id hold
 change_by f (change.KeyMake k) = change.KeyMake k
 change_by f (change.KeyDrop n) = change.KeyDrop n
 change_by f (change.SnapState n) = change.SnapState n
-change_by f (change.SnapLarge v m digest) = change.SnapLarge v m digest
+change_by f (change.SnapLarge v) = change.SnapLarge v
 change_by f (change.SnapExtents id pieces) = change.SnapExtents id (map f pieces)
 
 abbrev pub content_by : {C D : Type 0} → (C → D) → ContentOf C → ContentOf D
-content_by f c = record { file = c.file; content = map f c.content; at = c.at; len = c.len; part = c.part }
+content_by f c = record { file = c.file; content = map f c.content; range = c.range }
 
 -- an answer differs where a content is sent alone
 abbrev pub answer_by : {C D : Type 0} → (C → D) → AnswerOf C → AnswerOf D
-answer_by f (answer.Account a) = answer.Account a
-answer_by f (answer.Bucket b) = answer.Bucket b
-answer_by f (answer.Buckets bs) = answer.Buckets bs
-answer_by f (answer.NewKey k secret) = answer.NewKey k secret
-answer_by f (answer.Key k) = answer.Key k
-answer_by f (answer.Keys ks next) = answer.Keys ks next
-answer_by f (answer.UploadUrl b token url) = answer.UploadUrl b token url
-answer_by f (answer.PartUrl b n token url) = answer.PartUrl b n token url
-answer_by f (answer.File v) = answer.File v
-answer_by f (answer.Part p) = answer.Part p
-answer_by f (answer.Parts ps next) = answer.Parts ps next
-answer_by f (answer.Cancelled account v) = answer.Cancelled account v
-answer_by f (answer.FileNames rows next) = answer.FileNames rows next
-answer_by f (answer.FileVersions rows next) = answer.FileVersions rows next
-answer_by f (answer.Unfinished rows next) = answer.Unfinished rows next
-answer_by f (answer.Deleted v) = answer.Deleted v
-answer_by f (answer.DownloadToken b prefix token) = answer.DownloadToken b prefix token
+answer_by f (answer.Json shown) = answer.Json shown
 answer_by f (answer.Content c) = answer.Content (content_by f c)
-answer_by f (answer.Retention v retention) = answer.Retention v retention
-answer_by f (answer.Hold v hold) = answer.Hold v hold
 answer_by f (answer.Refused fault) = answer.Refused fault
 
 abbrev pub plan_by : {C D : Type 0} → (C → D) → Plan C → Plan D
@@ -126,8 +108,8 @@ abbrev pub begun_by : {C D : Type 0} → (C → D) → Begun C → Begun D
 begun_by f b = record { state = state_by f b.state; fault = b.fault }
 
 abbrev pub step_by : {C D : Type 0} → (C → D) → Step C → Step D
-step_by f (asks reading c) = asks reading c
-step_by f (begins reading conn u) = begins reading conn u
+step_by f (asks reading token c) = asks reading token c
+step_by f (begins reading conn token u) = begins reading conn token u
 step_by f (ends reading conn body) = ends reading conn (body_by f body)
 step_by f (loses reading conn) = loses reading conn
 step_by f (passes reading) = passes reading
@@ -135,3 +117,8 @@ step_by f (restarts reading) = restarts reading
 
 abbrev pub progress_by : {C D : Type 0} → (C → D) → Progress C → Progress D
 progress_by f P = record { state = state_by f P.state; words = P.words; answers = map (answer_by f) P.answers }
+
+-- two kinds of pieces go along with the change: it keeps lengths, and what is copied
+pub record GoAlong {C D : Type 0} (f : C → D) (P : Pieces C) (Q : Pieces D) : Type 0 where
+  pub size : (c : C) → Q.size (f c) ≡ P.size c
+  pub copy : (pieces : List C) (at len : ℕ) → Q.copy (map f pieces) at len ≡ body_by f (P.copy pieces at len)

@@ -1,6 +1,6 @@
 -- Which version of a name counts. A start never does.
 use Rattle.std.specs.Prelude.{ℕ, not, ◌&&◌, List, Option, bytes_eq, find}
-use Rattle.b2_model.specs.declared.version.VersionOf.{VersionOf}
+use Rattle.b2_types.specs.declared.version.VersionOf.{VersionOf}
 use Rattle.b2_model.specs.Kinds.{is_start}
 use Rattle.b2_model.specs.State.{State}
 use Rattle.b2_model.specs.Rows.{rows}

@@ -1,13 +1,13 @@
 -- Tests of the small kinds.
 use Rattle.std.specs.Prelude.{ℕ, Bool, true, false, ◌==◌, ◌+◌, ◌*◌, min}
-use Rattle.b2_model.specs.declared.kinds.Action.{Action}
-use Rattle.b2_model.specs.declared.kinds.Action.TheVariants as action
-use Rattle.b2_model.specs.declared.kinds.Mode.{Mode}
-use Rattle.b2_model.specs.declared.kinds.Mode.TheVariants as mode
-use Rattle.b2_model.specs.declared.kinds.Period.{Period}
-use Rattle.b2_model.specs.declared.kinds.Period.TheVariants as period
-use Rattle.b2_model.specs.declared.kinds.TokenKind.{TokenKind}
-use Rattle.b2_model.specs.declared.kinds.TokenKind.TheVariants as token
+use Rattle.b2_types.specs.declared.kinds.Action.{Action}
+use Rattle.b2_types.specs.declared.kinds.Action.TheVariants as action
+use Rattle.b2_types.specs.declared.kinds.Mode.{Mode}
+use Rattle.b2_types.specs.declared.kinds.Mode.TheVariants as mode
+use Rattle.b2_types.specs.declared.kinds.Period.{Period}
+use Rattle.b2_types.specs.declared.kinds.Period.TheVariants as period
+use Rattle.b2_types.specs.declared.kinds.TokenKind.{TokenKind}
+use Rattle.b2_types.specs.declared.kinds.TokenKind.TheVariants as token
 
 abbrev pub is_upload : Action → Bool
 is_upload action.Upload = true

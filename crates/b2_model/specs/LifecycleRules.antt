@@ -1,8 +1,8 @@
 -- Which lifecycle rules a bucket may have (the B2 reference, "Lifecycle rules").
 use Rattle.std.specs.Prelude.{ℕ, Bool, true, not, ◌&&◌, ◌||◌, nat_le, List, [], ◌∷◌, Option, Some, None, length, sum_by}
 use Rattle.std.specs.List.{list_any, list_all}
-use Rattle.b2_model.specs.declared.bucket.Rule.{Rule}
-use Rattle.b2_model.specs.Denial.{begins_with}
+use Rattle.name_rules.specs.Folder.{begins_with}
+use Rattle.b2_types.specs.declared.bucket.Rule.{Rule}
 
 -- 1 to 36,500 days, where days are given
 abbrev pub fits_days : Option ℕ → Bool
@@ -23,4 +23,5 @@ are_apart (r ∷ rs) = not (list_any (overlap r) rs) && are_apart rs
 -- at most 100 rules, whose prefixes have at most 32,768 bytes together, and of which at most one holds for
 -- a name
 abbrev pub are_rules : List Rule → Bool
-are_rules rules = nat_le (length rules) 100 && list_all has_days rules && nat_le (sum_by (λ r. length r.prefix) rules) 32768 && are_apart rules
+are_rules rules =
+    nat_le (length rules) 100 && list_all has_days rules && nat_le (sum_by (λ r. length r.prefix) rules) 32768 && are_apart rules

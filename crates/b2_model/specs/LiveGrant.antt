@@ -1,7 +1,7 @@
 -- When a token is good, and how it is spelled.
 use Rattle.std.specs.Prelude.{ℕ, Bool, true, ◌&&◌, ◌+◌, nat_lt, List, ◌∷◌, ◌++◌, Option, Some, None, codes, bytes_eq, find}
 use Rattle.b2_base.specs.Digits.{eight_digits, sixteen_digits}
-use Rattle.b2_model.specs.declared.key.Grant.{Grant}
+use Rattle.b2_types.specs.declared.key.Grant.{Grant}
 use Rattle.b2_model.specs.Checks.{some_and}
 use Rattle.b2_model.specs.State.{State, key_at}
 

@@ -1,17 +1,17 @@
 -- Pages of listings, in five moves on whole lists (the B2 reference, b2_list_file_names and
 -- b2_list_file_versions).
-use Rattle.std.specs.Prelude.{ℕ, Bool, true, false, not, ◌&&◌, ◌==◌, nat_lt, nat_le, min, List, [], ◌∷◌, Option, Some, None, if◌then◌else◌, unwrap_or, option_map, length, take, drop, filter, bytes_eq, suc, zero, ◌+◌}
+use Rattle.std.specs.Prelude.{ℕ, Bool, true, false, not, ◌&&◌, ◌==◌, nat_lt, nat_le, min, List, [], ◌∷◌, Option, Some, None, if◌then◌else◌, unwrap_or, take, filter, bytes_eq, suc, zero, slice_get}
 use Rattle.std.specs.Ordering.{nat_cmp, match_ordering}
 use Rattle.std.specs.Cmp.Lexicographic.{slice_cmp}
-use Rattle.b2_model.specs.declared.version.VersionOf.{VersionOf}
-use Rattle.b2_model.specs.declared.key.Key.{Key}
-use Rattle.b2_model.specs.declared.version.PartOf.{PartOf}
+use Rattle.b2_types.specs.declared.version.VersionOf.{VersionOf}
+use Rattle.b2_types.specs.declared.key.Key.{Key}
+use Rattle.b2_types.specs.declared.version.PartOf.{PartOf}
 use Rattle.b2_model.specs.Kinds.{is_upload, is_start}
 use Rattle.b2_model.specs.Checks.{some_and}
 use Rattle.b2_model.specs.State.{State}
 use Rattle.b2_model.specs.Rows.{rows}
 use Rattle.b2_model.specs.Current.{current_in}
-use Rattle.b2_model.specs.Denial.{begins_with}
+use Rattle.name_rules.specs.Folder.{begins_with, folder_in}
 
 -- a row of a page
 pub data Row (C : Type 0) : Type 0 where
@@ -34,19 +34,11 @@ with_prefix prefix versions = filter (λ v. begins_with prefix v.name) versions
 abbrev pub is_current : {C : Type 0} → List (VersionOf C) → VersionOf C → Bool
 is_current versions v = some_and (λ w. w.num == v.num) (current_in versions v.name)
 
-abbrev pub visible : {C : Type 0} → List (VersionOf C) → List (VersionOf C)
-visible versions = filter (λ v. is_upload v.action && is_current versions v) versions
+abbrev pub visible_versions : {C : Type 0} → List (VersionOf C) → List (VersionOf C)
+visible_versions versions = filter (λ v. is_upload v.action && is_current versions v) versions
 
--- Move 2: a row whose name has the delimiter behind the prefix becomes its folder, and of equal folders
+-- Move 2: a row whose name has the delimiter after the prefix becomes its folder, and of equal folders
 -- that are neighbours one is kept.
-abbrev pub folder_end : List ℕ → ℕ → List ℕ → Option ℕ
-folder_end delimiter at [] = None
-folder_end delimiter at (b ∷ bs) = if begins_with delimiter (b ∷ bs) then Some (at + length delimiter) else folder_end delimiter (at + 1) bs
-
--- the name up to the end of the first delimiter behind the prefix
-abbrev pub folder_in : List ℕ → List ℕ → List ℕ → Option (List ℕ)
-folder_in prefix delimiter name = option_map (λ end. take end name) (folder_end delimiter (length prefix) (drop (length prefix) name))
-
 abbrev pub or_file : {C : Type 0} → VersionOf C → Option (List ℕ) → Row C
 or_file v None = file v
 or_file v (Some name) = folder name
@@ -79,20 +71,20 @@ abbrev pub or_default : ℕ → ℕ → ℕ
 or_default given zero = given
 or_default given (suc n) = suc n
 
+-- the most rows of any page
+abbrev pub most_rows : ℕ
+most_rows = 1000
+
 abbrev pub page_size : ℕ → Option ℕ → ℕ
 page_size most asked = min most (or_default 100 (unwrap_or asked 0))
 
--- Move 5: the row behind them is the next.
-abbrev pub first_of : {X : Type 0} → List X → Option X
-first_of [] = None
-first_of (x ∷ xs) = Some x
-
+-- Move 5: the row after them is the next.
 pub record Page (R : Type 0) : Type 0 where
   pub rows : List R
   pub next : Option R
 
 abbrev pub page_of : {R : Type 0} → ℕ → List R → Page R
-page_of n rs = record { rows = take n rs; next = first_of (drop n rs) }
+page_of n rs = record { rows = take n rs; next = slice_get rs n }
 
 -- what a listing asks for
 pub record Listing : Type 0 where
@@ -102,37 +94,31 @@ pub record Listing : Type 0 where
   pub start_num : Option ℕ
   pub most : Option ℕ
 
-abbrev pub listed : {C : Type 0} → Listing → List (VersionOf C) → Page (Row C)
-listed ask versions = page_of (page_size 1000 ask.most) (filter (is_from ask.start ask.start_num) (with_folders ask.prefix ask.delimiter (with_prefix ask.prefix versions)))
+abbrev pub listing_page : {C : Type 0} → Listing → List (VersionOf C) → Page (Row C)
+listing_page ask versions =
+    page_of (page_size most_rows ask.most)
+    (filter (is_from ask.start ask.start_num) (with_folders ask.prefix ask.delimiter (with_prefix ask.prefix versions)))
 
 abbrev pub names_page : {C : Type 0} → State C → ℕ → Listing → Page (Row C)
-names_page M bucket ask = listed ask (visible (rows M bucket))
+names_page M bucket ask = listing_page ask (visible_versions (rows M bucket))
 
 abbrev pub versions_page : {C : Type 0} → State C → ℕ → Listing → Page (Row C)
-versions_page M bucket ask = listed ask (rows M bucket)
+versions_page M bucket ask = listing_page ask (rows M bucket)
 
 -- ---- pages by number
 
--- the item at its place by number
-abbrev pub put_by : {X : Type 0} → (X → ℕ) → X → List X → List X
-put_by num x [] = x ∷ []
-put_by num x (y ∷ ys) = if nat_lt (num x) (num y) then x ∷ y ∷ ys else y ∷ put_by num x ys
-
-abbrev pub by_number : {X : Type 0} → (X → ℕ) → List X → List X
-by_number num [] = []
-by_number num (x ∷ xs) = put_by num x (by_number num xs)
-
--- those from this number on
+-- those from this number on, of a list that stands by number
 abbrev pub page_from : {X : Type 0} → (X → ℕ) → ℕ → ℕ → List X → Page X
-page_from num start n xs = page_of n (filter (λ x. nat_le start (num x)) (by_number num xs))
+page_from num start n xs = page_of n (filter (λ x. nat_le start (num x)) xs)
 
 abbrev pub unfinished_page : {C : Type 0} → State C → ℕ → List ℕ → ℕ → Option ℕ → Page (VersionOf C)
 unfinished_page M bucket prefix start most =
-    page_from (λ v. v.num) start (page_size 100 most) (with_prefix prefix (filter (λ v. v.bucket == bucket && is_start v.action) M.versions))
+    page_from (λ v. v.num) start (page_size 100 most)
+    (with_prefix prefix (filter (λ v. v.bucket == bucket && is_start v.action) M.versions))
 
 -- without the master key
 abbrev pub keys_page : {C : Type 0} → State C → ℕ → Option ℕ → Page Key
-keys_page M start most = page_from (λ k. k.num) start (page_size 10000 most) (filter (λ k. not (k.num == 0)) M.keys)
+keys_page M start most = page_from (λ k. k.num) start (page_size most_rows most) (filter (λ k. not (k.num == 0)) M.keys)
 
 abbrev pub parts_page : {C : Type 0} → VersionOf C → ℕ → Option ℕ → Page (PartOf C)
-parts_page v start most = page_from (λ p. p.number) start (page_size 1000 most) v.parts
+parts_page v start most = page_from (λ p. p.number) start (page_size most_rows most) v.parts

@@ -1,22 +1,26 @@
 -- Steps and runs: what the machine does, one whole request, upload, loss, pass or restart after another.
-use Rattle.std.specs.Prelude.{⊤, ℕ, ◌+◌, ◌/◌, nat_lt, min, max, List, [], ◌∷◌, ◌++◌, Option, Some, None, if◌then◌else◌, fold}
-use Rattle.b2_model.specs.declared.fault.Fault.{Fault}
-use Rattle.b2_model.specs.declared.call.Call.{Call}
-use Rattle.b2_model.specs.declared.key.Flight.{Flight}
-use Rattle.b2_model.specs.declared.upload.UploadCall.{UploadCall}
-use Rattle.b2_model.specs.declared.record.ChangeOf.TheVariants as change
-use Rattle.b2_model.specs.declared.shown.AnswerOf.{AnswerOf}
-use Rattle.b2_model.specs.declared.shown.AnswerOf.TheVariants as answer
+use Rattle.std.specs.Option.{is_some}
+use Rattle.std.specs.Prelude.{⊤, ℕ, ◌+◌, ◌/◌, nat_lt, min, max, List, [], ◌∷◌, ◌++◌, length, Option, Some, None, option_map, if◌then◌else◌, fold}
+use Rattle.b2_types.specs.declared.fault.Fault.{Fault}
+use Rattle.b2_types.specs.declared.call.Call.{Call}
+use Rattle.b2_types.specs.declared.key.Flight.{Flight}
+use Rattle.b2_types.specs.declared.upload.UploadCall.{UploadCall}
+use Rattle.b2_types.specs.declared.record.ChangeOf.TheVariants as change
+use Rattle.b2_types.specs.declared.answer.AnswerOf.{AnswerOf}
+use Rattle.b2_types.specs.declared.answer.AnswerOf.TheVariants as answer
 use Rattle.b2_model.specs.Kinds.{day, last_moment}
-use Rattle.b2_model.specs.State.{State}
-use Rattle.b2_model.specs.Changes.{applied}
+use Rattle.b2_model.specs.Body.{copy_of}
+use Rattle.b2_model.specs.State.{State, Pieces}
+use Rattle.b2_model.specs.Changes.{after_record}
 use Rattle.b2_model.specs.Ask.{Outcome, ask}
-use Rattle.b2_model.specs.UploadSteps.{Body, Begun, begin, end, lost, flight_of}
+use Rattle.b2_model.specs.UploadSteps.{Body, Begun, begin, end, without_flight, flight_of}
 
 -- a step, with the clock's reading at it
 pub data Step (C : Type 0) : Type 0 where
-  asks : ℕ → Call → Step C
-  begins : ℕ → ℕ → UploadCall → Step C
+  -- a call with the token that it gives
+  asks : ℕ → Option (List ℕ) → Call → Step C
+  -- on a connection, with the token that it gives
+  begins : ℕ → ℕ → Option (List ℕ) → UploadCall → Step C
   ends : ℕ → ℕ → Body C → Step C
   loses : ℕ → ℕ → Step C
   passes : ℕ → Step C
@@ -24,8 +28,8 @@ pub data Step (C : Type 0) : Type 0 where
 
 -- any step but an opening
 abbrev pub Keeps : {C : Type 0} → Step C → Type 0
-Keeps (asks reading c) = ⊤
-Keeps (begins reading conn u) = ⊤
+Keeps (asks reading token c) = ⊤
+Keeps (begins reading conn token u) = ⊤
 Keeps (ends reading conn body) = ⊤
 Keeps (loses reading conn) = ⊤
 Keeps (passes reading) = ⊤
@@ -35,19 +39,19 @@ Keeps (restarts reading) = ⊥
 abbrev pub moment : {C : Type 0} → State C → ℕ → ℕ
 moment M reading = max M.now (min reading last_moment)
 
-abbrev pub passed : {C : Type 0} → State C → ℕ → State C
-passed M t = applied M (record { at = t; change = change.Pass })
+abbrev pub with_pass : {C : Type 0} → State C → ℕ → State C
+with_pass M t = after_record M (record { at = t; change = change.Pass })
 
 -- a pass stands before the first step of a day
-abbrev pub in_day : {C : Type 0} → State C → ℕ → State C
-in_day M t = if nat_lt M.pass_day (t / day) then passed M t else M
+abbrev pub with_daily_pass : {C : Type 0} → State C → ℕ → State C
+with_daily_pass M t = if nat_lt M.pass_day (t / day) then with_pass M t else M
 
 -- the state is opened again: what was not kept is gone
-abbrev pub reopened : {C : Type 0} → State C → State C
-reopened M = record M { now = M.kept }
+abbrev pub at_kept : {C : Type 0} → State C → State C
+at_kept M = record M { now = M.kept }
 
-abbrev pub restarted : {C : Type 0} → State C → ℕ → State C
-restarted M t = applied M (record { at = t; change = change.Boot (M.boot + 1) })
+abbrev pub with_restart : {C : Type 0} → State C → ℕ → State C
+with_restart M t = after_record M (record { at = t; change = change.Boot (M.boot + 1) })
 
 -- the state, the words that are left, and the answers so far
 pub record Progress (C : Type 0) : Type 0 where
@@ -55,28 +59,67 @@ pub record Progress (C : Type 0) : Type 0 where
   pub words : List ℕ
   pub answers : List (AnswerOf C)
 
-abbrev pub answered : {C : Type 0} → Progress C → Outcome C → Progress C
-answered P o = record { state = o.state; words = o.words; answers = P.answers ++ o.answer ∷ [] }
+-- ---- what a step makes, and what it answers
 
-abbrev pub refusal_of : {C : Type 0} → Option Fault → List (AnswerOf C)
-refusal_of None = []
-refusal_of (Some fault) = answer.Refused fault ∷ []
+-- a step is carried out on the state after the daily pass
+abbrev pub start_of : {C : Type 0} → Progress C → ℕ → State C
+start_of P reading = with_daily_pass P.state (moment P.state reading)
 
-abbrev pub begun_in : {C : Type 0} → Progress C → Begun C → Progress C
-begun_in P b = record P { state = b.state; answers = P.answers ++ refusal_of b.fault }
+abbrev pub ask_step : {C : Type 0} → Pieces C → Progress C → ℕ → Option (List ℕ) → Call → Outcome C
+ask_step K P reading token c = ask K (start_of P reading) (moment P.state reading) P.words token c
 
--- an end without a flight is no step
-abbrev pub ended_in : {C : Type 0} → (C → ℕ) → Progress C → State C → ℕ → Body C → Option Flight → Progress C
-ended_in size P M t body None = P
-ended_in size P M t body (Some f) = answered P (end size M t f body P.words)
+abbrev pub begin_step : {C : Type 0} → Progress C → ℕ → ℕ → Option (List ℕ) → UploadCall → Begun C
+begin_step P reading conn token u = begin (start_of P reading) (moment P.state reading) conn token u
 
-abbrev pub step : {C : Type 0} → (C → ℕ) → Progress C → Step C → Progress C
-step size P (asks reading c) = let t = moment P.state reading in answered P (ask size (in_day P.state t) t P.words c)
-step size P (begins reading conn u) = let t = moment P.state reading in begun_in P (begin (in_day P.state t) t conn u)
-step size P (ends reading conn body) = let t = moment P.state reading in ended_in size P (in_day P.state t) t body (flight_of P.state conn)
-step size P (loses reading conn) = let t = moment P.state reading in record P { state = lost (in_day P.state t) t conn }
-step size P (passes reading) = record P { state = passed P.state (moment P.state reading) }
-step size P (restarts reading) = let M = reopened P.state in record P { state = restarted M (moment M reading) }
+abbrev pub end_step : {C : Type 0} → Pieces C → Progress C → ℕ → Flight → Body C → Outcome C
+end_step K P reading f body = end K.size (start_of P reading) (moment P.state reading) f body P.words
 
-abbrev pub run : {C : Type 0} → (C → ℕ) → State C → List ℕ → List (Step C) → Progress C
-run size M words steps = fold (step size) (record { state = M; words = words; answers = [] }) steps
+abbrev pub refusal_of : {C : Type 0} → Option Fault → Option (AnswerOf C)
+refusal_of fault = option_map (λ f. answer.Refused f) fault
+
+-- what a step answers. An upload that begins well is not answered yet; nor is a loss, a pass or an opening
+abbrev pub answer_to : {C : Type 0} → Pieces C → Progress C → Step C → Option (AnswerOf C)
+answer_to K P (asks reading token c) = Some (ask_step K P reading token c).answer
+answer_to K P (begins reading conn token u) =
+    if is_some (flight_of P.state conn) then None else refusal_of (begin_step P reading conn token u).fault
+answer_to K P (ends reading conn body) = option_map (λ f. (end_step K P reading f body).answer) (flight_of P.state conn)
+answer_to K P (loses reading conn) = None
+answer_to K P (passes reading) = None
+answer_to K P (restarts reading) = None
+
+abbrev pub with_outcome : {C : Type 0} → Progress C → Outcome C → Progress C
+with_outcome P o = record P { state = o.state; words = o.words }
+
+abbrev pub with_state : {C : Type 0} → Progress C → State C → Progress C
+with_state P M = record P { state = M }
+
+abbrev pub with_end : {C : Type 0} → Pieces C → Progress C → ℕ → Body C → Option Flight → Progress C
+with_end K P reading body None = P
+with_end K P reading body (Some f) = with_outcome P (end_step K P reading f body)
+
+-- the state after a step, and the words that are left. An upload that begins where one is under way is no
+-- step, nor is the end or the loss of one where none is
+abbrev pub state_after : {C : Type 0} → Pieces C → Progress C → Step C → Progress C
+state_after K P (asks reading token c) = with_outcome P (ask_step K P reading token c)
+state_after K P (begins reading conn token u) =
+    if is_some (flight_of P.state conn) then P else with_state P (begin_step P reading conn token u).state
+state_after K P (ends reading conn body) = with_end K P reading body (flight_of P.state conn)
+state_after K P (loses reading conn) =
+    if is_some (flight_of P.state conn) then with_state P (without_flight (start_of P reading) (moment P.state reading) conn) else P
+state_after K P (passes reading) = with_state P (with_pass P.state (moment P.state reading))
+state_after K P (restarts reading) = let M = at_kept P.state in with_state P (with_restart M (moment M reading))
+
+abbrev pub with_answer : {C : Type 0} → Option (AnswerOf C) → Progress C → Progress C
+with_answer None P = P
+with_answer (Some answer) P = record P { answers = P.answers ++ answer ∷ [] }
+
+abbrev pub step : {C : Type 0} → Pieces C → Progress C → Step C → Progress C
+step K P s = with_answer (answer_to K P s) (state_after K P s)
+
+abbrev pub run : {C : Type 0} → Pieces C → State C → List ℕ → List (Step C) → Progress C
+run K M words steps = fold (step K) (record { state = M; words = words; answers = [] }) steps
+
+-- ---- contents that are lists of bytes
+
+abbrev pub of_bytes : Pieces (List ℕ)
+of_bytes = record { size = length; copy = copy_of }

@@ -1,29 +1,31 @@
 -- What answers show of versions, buckets, keys and parts (the B2 reference, the responses of the calls).
-use Rattle.std.specs.Prelude.{ℕ, Bool, List, [], Option, Some, None, if◌then◌else◌, option_map, option_and_then}
+use Rattle.std.specs.Prelude.{ℕ, Bool, List, [], Option, Some, None, if◌then◌else◌, option_map, map}
 use Rattle.rule_table.specs.declared.cap.Cap.{Cap}
 use Rattle.rule_table.specs.declared.cap.Cap.TheVariants.{ReadBucketRetentions, ReadFileRetentions, ReadFileLegalHolds}
 use Rattle.rule_table.specs.CapSet.{has}
 use Rattle.b2_base.specs.declared.settings.Settings.{Settings}
-use Rattle.b2_model.specs.declared.kinds.Action.{Action}
-use Rattle.b2_model.specs.declared.kinds.Action.TheVariants as action
-use Rattle.b2_model.specs.declared.kinds.Mark.{Mark}
-use Rattle.b2_model.specs.declared.kinds.Mark.TheVariants as mark
-use Rattle.b2_model.specs.declared.bucket.Bucket.{Bucket}
-use Rattle.b2_model.specs.declared.key.Key.{Key}
-use Rattle.b2_model.specs.declared.version.VersionOf.{VersionOf}
-use Rattle.b2_model.specs.declared.version.PartOf.{PartOf}
-use Rattle.b2_model.specs.declared.shown.RowKind.{RowKind}
-use Rattle.b2_model.specs.declared.shown.RowKind.TheVariants as row
-use Rattle.b2_model.specs.declared.shown.ShownDigest.{ShownDigest}
-use Rattle.b2_model.specs.declared.shown.ShownFile.{ShownFile}
-use Rattle.b2_model.specs.declared.shown.ShownBucket.{ShownBucket}
-use Rattle.b2_model.specs.declared.shown.ShownKey.{ShownKey}
-use Rattle.b2_model.specs.declared.shown.ShownPart.{ShownPart}
-use Rattle.b2_model.specs.declared.shown.ShownName.{ShownName}
-use Rattle.b2_model.specs.declared.shown.ShownAccount.{ShownAccount}
+use Rattle.b2_types.specs.declared.kinds.Action.{Action}
+use Rattle.b2_types.specs.declared.kinds.Action.TheVariants as action
+use Rattle.b2_types.specs.declared.kinds.Mark.{Mark}
+use Rattle.b2_types.specs.declared.kinds.Mark.TheVariants as mark
+use Rattle.b2_types.specs.declared.bucket.Bucket.{Bucket}
+use Rattle.b2_types.specs.declared.key.Key.{Key}
+use Rattle.b2_types.specs.declared.version.VersionOf.{VersionOf}
+use Rattle.b2_types.specs.declared.version.PartOf.{PartOf}
+use Rattle.b2_types.specs.declared.shown.RowKind.{RowKind}
+use Rattle.b2_types.specs.declared.shown.RowKind.TheVariants as row
+use Rattle.b2_types.specs.declared.shown.ShownDigest.{ShownDigest}
+use Rattle.b2_types.specs.declared.shown.ShownFile.{ShownFile}
+use Rattle.b2_types.specs.declared.shown.ShownBucket.{ShownBucket}
+use Rattle.b2_types.specs.declared.shown.ShownKey.{ShownKey}
+use Rattle.b2_types.specs.declared.shown.ShownPart.{ShownPart}
+use Rattle.b2_types.specs.declared.shown.ShownName.{ShownName}
+use Rattle.b2_types.specs.declared.shown.ShownAccount.{ShownAccount}
+use Rattle.b2_types.specs.declared.shown.ShownLimit.{ShownLimit}
+use Rattle.b2_types.specs.declared.kinds.ApiVersion.{ApiVersion}
 use Rattle.b2_model.specs.Checks.{some_and}
 use Rattle.b2_model.specs.State.{State, bucket_at, length_of}
-use Rattle.b2_model.specs.Pages.{Row, file, folder, first_of}
+use Rattle.b2_model.specs.Pages.{Row, file, folder}
 
 -- the key may read this; where no key asks nothing may be read
 abbrev pub may : Option Key → Cap → Bool
@@ -93,8 +95,9 @@ shown_bucket settings key b = record {
   rules = b.rules;
 }
 
-abbrev pub shown_key : Settings → Key → ShownKey
-shown_key settings k = record {
+abbrev pub shown_key : ApiVersion → Settings → Key → ShownKey
+shown_key version settings k = record {
+  version = version;
   account = settings.account;
   num = k.num;
   name = k.name;
@@ -117,15 +120,19 @@ shown_part size bucket num p = record {
 abbrev pub shown_name : {C : Type 0} → VersionOf C → ShownName
 shown_name v = record { bucket = v.bucket; num = v.num; name = v.name }
 
-abbrev pub shown_account : {C : Type 0} → State C → Key → List ℕ → ShownAccount
-shown_account M k token = record {
+-- the name of a bucket that is gone is not known
+abbrev pub shown_limit : {C : Type 0} → State C → ℕ → ShownLimit
+shown_limit M bucket = record { bucket = bucket; name = option_map (λ b. b.name) (bucket_at M bucket) }
+
+abbrev pub shown_account : {C : Type 0} → ApiVersion → State C → Key → List ℕ → ShownAccount
+shown_account version M k token = record {
+  version = version;
   account = M.settings.account;
   token = token;
   url = M.settings.url;
   part_min = M.settings.part_min;
   caps = k.caps;
-  buckets = k.buckets;
-  bucket_name = option_map (λ b. b.name) (option_and_then (bucket_at M) (first_of k.buckets));
+  buckets = map (shown_limit M) k.buckets;
   prefix = k.prefix;
   end = k.end;
 }

@@ -3,11 +3,18 @@
 -- version is a list of pieces: one of an upload, and those of its parts of a large file.
 use Rattle.std.specs.Prelude.{ℕ, List, Option, ◌==◌, find, sum_by}
 use Rattle.b2_base.specs.declared.settings.Settings.{Settings}
-use Rattle.b2_model.specs.declared.bucket.Bucket.{Bucket}
-use Rattle.b2_model.specs.declared.version.VersionOf.{VersionOf}
-use Rattle.b2_model.specs.declared.key.Key.{Key}
-use Rattle.b2_model.specs.declared.key.Grant.{Grant}
-use Rattle.b2_model.specs.declared.key.Flight.{Flight}
+use Rattle.b2_types.specs.declared.bucket.Bucket.{Bucket}
+use Rattle.b2_types.specs.declared.version.VersionOf.{VersionOf}
+use Rattle.b2_types.specs.declared.key.Key.{Key}
+use Rattle.b2_types.specs.declared.key.Grant.{Grant}
+use Rattle.b2_types.specs.declared.key.Flight.{Flight}
+use Rattle.b2_model.specs.Body.{Body}
+
+-- what a server knows of pieces of content: the length of each, and what a copy of some bytes of several,
+-- one after the other, makes, from a place on and so many
+pub record Pieces (C : Type 0) : Type 0 where
+  pub size : C → ℕ
+  pub copy : List C → ℕ → ℕ → Body C
 
 pub record State (C : Type 0) : Type 0 where
   pub settings : Settings
@@ -25,6 +32,8 @@ pub record State (C : Type 0) : Type 0 where
   pub next_key : ℕ
   -- may stand one above the last number of a version
   pub next_version : ℕ
+  -- each list stands by number, the tokens in the order in which they were given, the uploads under way
+  -- by connection
   pub buckets : List Bucket
   pub versions : List (VersionOf C)
   -- the master key, which has the number 0, is always among them

@@ -3,31 +3,29 @@
 use Rattle.std.specs.Prelude.{ℕ, zero, suc, Bool, true, false, not, ◌&&◌, ◌||◌, ◌==◌, nat_le, nat_lt, List, [], ◌∷◌, ◌++◌, Option, Some, None, if◌then◌else◌, map, filter, take, drop, length, option_map}
 use Rattle.std.specs.Option.{is_none, is_some}
 use Rattle.std.specs.List.{list_any, flat_map}
-use Rattle.b2_model.specs.declared.kinds.Mark.{Mark}
-use Rattle.b2_model.specs.declared.kinds.Mark.TheVariants as mark
-use Rattle.b2_model.specs.declared.bucket.Bucket.{Bucket}
-use Rattle.b2_model.specs.declared.version.VersionOf.{VersionOf}
-use Rattle.b2_model.specs.declared.version.PartOf.{PartOf}
-use Rattle.b2_model.specs.declared.record.NewVersion.{NewVersion}
-use Rattle.b2_model.specs.declared.record.VersionId.{VersionId}
-use Rattle.b2_model.specs.declared.record.Numbers.{Numbers}
-use Rattle.b2_model.specs.declared.record.RecordOf.{RecordOf}
-use Rattle.b2_model.specs.declared.record.ChangeOf.{ChangeOf}
-use Rattle.b2_model.specs.declared.record.ChangeOf.TheVariants as change
+use Rattle.b2_types.specs.declared.kinds.Mark.{Mark}
+use Rattle.b2_types.specs.declared.kinds.Mark.TheVariants as mark
+use Rattle.b2_types.specs.declared.bucket.Bucket.{Bucket}
+use Rattle.b2_types.specs.declared.version.VersionOf.{VersionOf}
+use Rattle.b2_types.specs.declared.version.PartOf.{PartOf}
+use Rattle.b2_types.specs.declared.record.NewVersion.{NewVersion}
+use Rattle.b2_types.specs.declared.record.VersionId.{VersionId}
+use Rattle.b2_types.specs.declared.record.Numbers.{Numbers}
+use Rattle.b2_types.specs.declared.record.RecordOf.{RecordOf}
+use Rattle.b2_types.specs.declared.record.ChangeOf.{ChangeOf}
+use Rattle.b2_types.specs.declared.record.ChangeOf.TheVariants as change
 use Rattle.b2_model.specs.Kinds.{is_upload, is_hide, is_start}
 use Rattle.b2_model.specs.Checks.{some_and}
 use Rattle.b2_model.specs.State.{State, bucket_at, key_at}
 use Rattle.b2_model.specs.Rows.{version_at}
-use Rattle.b2_model.specs.Naming.{same_name}
-use Rattle.b2_model.specs.Denial.{is_empty}
+use Rattle.b2_model.specs.Lists.{is_empty}
+use Rattle.b2_model.specs.Policy.{is_same_name}
 use Rattle.b2_model.specs.LifecycleRules.{are_rules}
-use Rattle.b2_model.specs.Pages.{by_number}
-use Rattle.b2_model.specs.Pass.{twenty_zeros}
-use Rattle.b2_model.specs.Plan.{id_of, last_number}
-use Rattle.b2_model.specs.Changes.{applied, begun}
+use Rattle.b2_model.specs.Plan.{id_of, number_end}
+use Rattle.b2_model.specs.Changes.{after_record, state_of_settings}
 
-abbrev pub stored : {C : Type 0} → State C → State C
-stored M = record M { now = M.kept; serial = 0; grants = []; flights = [] }
+abbrev pub stored_part : {C : Type 0} → State C → State C
+stored_part M = record M { now = M.kept; serial = 0; grants = []; flights = [] }
 
 -- ---- which records apply
 
@@ -47,10 +45,10 @@ may_make M bucket num = is_some (bucket_at M bucket) && not (num == 0) && not (l
 
 -- no other bucket has the name, and the rules are such as a bucket may have
 abbrev pub may_be : {C : Type 0} → State C → Bucket → Bool
-may_be M b = not (list_any (λ a. not (a.num == b.num) && same_name a.name b.name) M.buckets) && are_rules b.rules
+may_be M b = not (list_any (λ a. not (a.num == b.num) && is_same_name a.name b.name) M.buckets) && are_rules b.rules
 
 abbrev pub is_number : ℕ → Bool
-is_number n = not (n == 0) && nat_lt n last_number
+is_number n = not (n == 0) && nat_lt n number_end
 
 -- the change applies; the settings stand first and nowhere else
 abbrev pub applies_change : {C : Type 0} → State C → ChangeOf C → Bool
@@ -72,7 +70,7 @@ applies_change M (change.Hold id hold) = stands M id (λ v. is_upload v.action)
 applies_change M (change.KeyMake k) = is_number k.num && is_none (key_at M k.num)
 applies_change M (change.KeyDrop n) = not (n == 0) && is_some (key_at M n)
 applies_change M (change.SnapState n) = nat_le M.next_bucket n.next_bucket && nat_le M.next_key n.next_key && nat_le M.next_version n.next_version
-applies_change M (change.SnapLarge v m digest) = may_make M v.bucket v.num
+applies_change M (change.SnapLarge v) = may_make M v.bucket v.num
 applies_change M (change.SnapExtents id pieces) = stands M id (λ v. is_large v.mark && is_upload v.action)
 
 abbrev pub is_snap_state : {C : Type 0} → ChangeOf C → Bool
@@ -81,7 +79,7 @@ is_snap_state other = false
 
 -- ---- replay
 
--- the state so far, and whether the numbers of a snapshot came; they come once, and behind them moments
+-- the state so far, and whether the numbers of a snapshot came; they come once, and after them moments
 -- never fall
 pub record Replayed (C : Type 0) : Type 0 where
   pub state : State C
@@ -90,16 +88,16 @@ pub record Replayed (C : Type 0) : Type 0 where
 abbrev pub applies : {C : Type 0} → Replayed C → RecordOf C → Bool
 applies R r = applies_change R.state r.change && not (R.settled && (is_snap_state r.change || nat_lt r.at R.state.kept))
 
-abbrev pub replayed : {C : Type 0} → Replayed C → RecordOf C → Replayed C
-replayed R r = record { state = applied R.state r; settled = R.settled || is_snap_state r.change }
+abbrev pub replay_one : {C : Type 0} → Replayed C → RecordOf C → Replayed C
+replay_one R r = record { state = after_record R.state r; settled = R.settled || is_snap_state r.change }
 
 -- the records that follow the settings, where each applies
 abbrev pub replay_on : {C : Type 0} → Replayed C → List (RecordOf C) → Option (Replayed C)
 replay_on R [] = Some R
-replay_on R (r ∷ rs) = if applies R r then replay_on (replayed R r) rs else None
+replay_on R (r ∷ rs) = if applies R r then replay_on (replay_one R r) rs else None
 
 abbrev pub replay_from : {C : Type 0} → ℕ → ChangeOf C → List (RecordOf C) → Option (Replayed C)
-replay_from t (change.Settings s) rs = replay_on (record { state = begun s t; settled = false }) rs
+replay_from t (change.Settings s) rs = replay_on (record { state = state_of_settings s t; settled = false }) rs
 replay_from t other rs = None
 
 -- what the records stand for; the settings are the first
@@ -110,31 +108,39 @@ replay (r ∷ rs) = option_map (λ R. R.state) (replay_from r.at r.change rs)
 -- ---- snapshot
 
 abbrev pub as_new : {C : Type 0} → VersionOf C → NewVersion
-as_new v = record { bucket = v.bucket; num = v.num; name = v.name; kind = v.kind; info = v.info; retention = v.retention; hold = v.hold }
+as_new v = record {
+  bucket = v.bucket;
+  num = v.num;
+  name = v.name;
+  kind = v.kind;
+  info = v.info;
+  retention = v.retention;
+  hold = v.hold;
+}
 
-abbrev pub kept_at : {C : Type 0} → ℕ → ChangeOf C → RecordOf C
-kept_at t c = record { at = t; change = c }
+abbrev pub record_at : {C : Type 0} → ℕ → ChangeOf C → RecordOf C
+record_at t c = record { at = t; change = c }
 
 -- pieces of a list, of so many items each; the first number bounds how many pieces there are
-abbrev pub cut_up : {X : Type 0} → ℕ → ℕ → List X → List (List X)
-cut_up zero n xs = []
-cut_up (suc k) n xs = if is_empty xs then [] else take n xs ∷ cut_up k n (drop n xs)
+abbrev pub pieces_of : {X : Type 0} → ℕ → ℕ → List X → List (List X)
+pieces_of zero n xs = []
+pieces_of (suc k) n xs = if is_empty xs then [] else take n xs ∷ pieces_of k n (drop n xs)
 
 abbrev pub part_record : {C : Type 0} → VersionOf C → PartOf C → RecordOf C
-part_record v p = kept_at p.stamp (change.PartPut (id_of v) p.number p.content p.mark p.digest)
+part_record v p = record_at p.stamp (change.PartPut (id_of v) p.number p.content p.mark p.digest)
 
 abbrev pub large_records : {C : Type 0} → VersionOf C → List (RecordOf C)
-large_records v = kept_at v.stamp (change.SnapLarge (as_new v) mark.Large twenty_zeros)
-    ∷ map (λ pieces. kept_at v.stamp (change.SnapExtents (id_of v) pieces)) (cut_up (length v.content) 2000 v.content)
+large_records v = record_at v.stamp (change.SnapLarge (as_new v))
+    ∷ map (λ pieces. record_at v.stamp (change.SnapExtents (id_of v) pieces)) (pieces_of (length v.content) 2000 v.content)
 
 -- an upload has one piece
 abbrev pub upload_records : {C : Type 0} → VersionOf C → List (RecordOf C)
-upload_records v = map (λ content. kept_at v.stamp (change.Upload (as_new v) content v.mark v.digest)) v.content
+upload_records v = map (λ content. record_at v.stamp (change.Upload (as_new v) content v.mark v.digest)) v.content
 
 abbrev pub version_records : {C : Type 0} → VersionOf C → List (RecordOf C)
 version_records v =
-    if is_start v.action then kept_at v.stamp (change.Start (as_new v)) ∷ map (part_record v) v.parts
-    else (if is_hide v.action then kept_at v.stamp (change.Hide (id_of v) v.name) ∷ []
+    if is_start v.action then record_at v.stamp (change.Start (as_new v)) ∷ map (part_record v) v.parts
+    else (if is_hide v.action then record_at v.stamp (change.Hide (id_of v) v.name) ∷ []
     else (if is_large v.mark then large_records v else upload_records v))
 
 abbrev pub numbers_of : {C : Type 0} → State C → Numbers
@@ -142,8 +148,8 @@ numbers_of S = record { pass_day = S.pass_day; boot = S.boot; next_bucket = S.ne
 
 abbrev pub snapshot : {C : Type 0} → State C → List (RecordOf C)
 snapshot S =
-    kept_at S.now (change.Settings S.settings)
-    ∷ map (λ b. kept_at S.now (change.BucketMake b)) S.buckets
-    ++ flat_map version_records (by_number (λ v. v.num) S.versions)
-    ++ map (λ k. kept_at S.now (change.KeyMake k)) (filter (λ k. not (k.num == 0)) S.keys)
-    ++ kept_at S.now (change.SnapState (numbers_of S)) ∷ []
+    record_at S.now (change.Settings S.settings)
+    ∷ map (λ b. record_at S.now (change.BucketMake b)) S.buckets
+    ++ flat_map version_records S.versions
+    ++ map (λ k. record_at S.now (change.KeyMake k)) (filter (λ k. not (k.num == 0)) S.keys)
+    ++ record_at S.now (change.SnapState (numbers_of S)) ∷ []
