@@ -1,0 +1,5 @@
+pub mod Mapped
+pub mod Carried
+pub mod CarriedPass
+pub mod CarriedAsk
+pub mod CarriedRun

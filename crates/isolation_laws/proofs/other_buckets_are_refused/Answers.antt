@@ -1,0 +1,5 @@
+use Rattle.isolation_laws.proofs.Refused.{refused_outside}
+use Rattle.isolation_laws.proofs.other_buckets_are_refused.Goals as goal
+
+pub returns : goal.returns
+returns g c P M t words token asked bucket looks full apart none = refused_outside P M t words token asked bucket looks full apart none

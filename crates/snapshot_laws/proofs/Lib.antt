@@ -1,0 +1,4 @@
+pub mod Ends
+pub mod Replayed
+pub mod ReplayedVersions
+pub mod Snapshots

@@ -1,0 +1,9 @@
+pub mod Ascending
+pub mod Tests
+pub mod Made
+pub mod Buckets
+pub mod Keys
+pub mod Versions
+pub mod Passed
+pub mod Records
+pub mod Found

@@ -1,0 +1,5 @@
+pub mod Plans
+pub mod Outcomes
+pub mod Numbers
+pub mod TokenTexts
+pub mod Tokens

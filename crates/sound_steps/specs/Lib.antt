@@ -1,0 +1,3 @@
+pub mod FitSteps
+pub mod Numbers
+pub mod Tokens
