@@ -10,4 +10,3 @@ pub mod Lifecycle
 pub mod Keys
 pub mod Ends
 pub mod Downloads
-pub mod Runs

@@ -1,23 +1,26 @@
 -- The store of the worked rows: made at moment 0 and opened once, with a least part of 10 bytes.
-use Rattle.std.specs.Prelude.{ℕ, ◌+◌, ◌^◌, Bool, true, false, List, [], ◌∷◌, Option, Some, None, codes, length, fold}
+use Rattle.std.specs.Prelude.{ℕ, ◌+◌, ◌^◌, Bool, true, false, List, [], ◌∷◌, Option, Some, None, codes, map, fold}
 use Rattle.sha2.specs.Sha256.{sha256}
 use Rattle.b2_base.specs.declared.settings.Settings.{Settings}
-use Rattle.b2_model.specs.declared.kinds.TokenKind.TheVariants as token
-use Rattle.b2_model.specs.declared.kinds.Action.TheVariants as action
-use Rattle.b2_model.specs.declared.kinds.Mark.TheVariants as mark
-use Rattle.b2_model.specs.declared.bucket.Bucket.{Bucket}
-use Rattle.b2_model.specs.declared.version.VersionOf.{VersionOf}
-use Rattle.b2_model.specs.declared.record.NewVersion.{NewVersion}
-use Rattle.b2_model.specs.declared.record.VersionId.{VersionId}
-use Rattle.b2_model.specs.declared.key.Grant.{Grant}
-use Rattle.b2_model.specs.declared.fault.Fault.{Fault}
-use Rattle.b2_model.specs.declared.call.Call.{Call}
-use Rattle.b2_model.specs.declared.shown.AnswerOf.{AnswerOf}
-use Rattle.b2_model.specs.declared.shown.AnswerOf.TheVariants as answer
+use Rattle.b2_types.specs.declared.kinds.TokenKind.TheVariants as token
+use Rattle.b2_types.specs.declared.kinds.Action.TheVariants as action
+use Rattle.b2_types.specs.declared.kinds.Mark.{Mark}
+use Rattle.b2_types.specs.declared.kinds.Mark.TheVariants as mark
+use Rattle.b2_types.specs.declared.kinds.Mode.TheVariants.{Governance}
+use Rattle.b2_types.specs.declared.kinds.Retention.{Retention}
+use Rattle.b2_types.specs.declared.bucket.Bucket.{Bucket}
+use Rattle.b2_types.specs.declared.version.VersionOf.{VersionOf}
+use Rattle.b2_types.specs.declared.record.NewVersion.{NewVersion}
+use Rattle.b2_types.specs.declared.record.VersionId.{VersionId}
+use Rattle.b2_types.specs.declared.key.Grant.{Grant}
+use Rattle.b2_types.specs.declared.fault.Fault.{Fault}
+use Rattle.b2_types.specs.declared.call.Call.{Call}
+use Rattle.b2_types.specs.declared.answer.AnswerOf.{AnswerOf}
+use Rattle.b2_types.specs.declared.answer.AnswerOf.TheVariants as answer
 use Rattle.b2_model.specs.State.{State}
-use Rattle.b2_model.specs.Pass.{twenty_zeros}
-use Rattle.b2_model.specs.Changes.{begun, made, with_version}
-use Rattle.b2_model.specs.Run.{restarted}
+use Rattle.b2_model.specs.Version.{no_digest, version_from, with_version}
+use Rattle.b2_model.specs.Changes.{new_store}
+use Rattle.b2_model.specs.Run.{with_restart, of_bytes}
 use Rattle.b2_model.specs.Ask.{Outcome, ask}
 
 -- contents are lists of bytes
@@ -34,8 +37,8 @@ settings = record {
   area_end = 2 ^ 56;
 }
 
-abbrev pub opened : State Bytes
-opened = restarted (begun settings 0) 0
+abbrev pub open_store : State Bytes
+open_store = with_restart (new_store settings 0) 0
 
 -- the account token of the master key that the rows use
 abbrev pub master_token : List ℕ
@@ -44,20 +47,25 @@ master_token = codes "master"
 abbrev pub master_grant : Grant
 master_grant = record { text = master_token; kind = token.Account; key = 0; bucket = 0; file = 0; prefix = []; end = 86400000 }
 
-abbrev pub given : Option (List ℕ)
-given = Some master_token
+abbrev pub master : Option (List ℕ)
+master = Some master_token
 
 abbrev pub store : State Bytes
-store = record opened { grants = master_grant ∷ []; serial = 1 }
+store = record open_store { grants = master_grant ∷ []; serial = 1 }
 
 abbrev pub words : List ℕ
 words = 1 ∷ 2 ∷ 3 ∷ 4 ∷ []
 
-abbrev pub asked : State Bytes → ℕ → Call → Outcome Bytes
-asked M t c = ask length M t words c
+-- a call with this token
+abbrev pub by_token : State Bytes → ℕ → Option (List ℕ) → Call → Outcome Bytes
+by_token M t token c = ask of_bytes M t words token c
+
+-- a call with the token of the master key
+abbrev pub by_master : State Bytes → ℕ → Call → Outcome Bytes
+by_master M t c = by_token M t master c
 
 -- the fault that is answered, where one is
-abbrev pub refusal : AnswerOf Bytes → Option Fault
+abbrev pub refusal : {C : Type 0} → AnswerOf C → Option Fault
 refusal (answer.Refused fault) = Some fault
 refusal other = None
 
@@ -71,8 +79,8 @@ bucket_of num name lock = record { num = num; name = name; public = false; revis
 abbrev pub photos_1 : Bucket
 photos_1 = bucket_of 1 (codes "photos-1") false
 
-abbrev pub locked : Bucket
-locked = bucket_of 1 (codes "photos-1") true
+abbrev pub lock_bucket : Bucket
+lock_bucket = bucket_of 1 (codes "photos-1") true
 
 -- the store with this bucket
 abbrev pub with_bucket : Bucket → State Bytes
@@ -86,14 +94,44 @@ abbrev pub version_of : ℕ → List ℕ → NewVersion
 version_of num name = record { bucket = 1; num = num; name = name; kind = plain_type; info = []; retention = None; hold = false }
 
 -- an upload of the content at the moment; its digest is not computed here
-abbrev pub uploaded : ℕ → ℕ → List ℕ → Bytes → VersionOf Bytes
-uploaded t num name content = made t action.Upload (content ∷ []) mark.Verified twenty_zeros (version_of num name)
+abbrev pub upload_at : ℕ → ℕ → List ℕ → Bytes → VersionOf Bytes
+upload_at t num name content = version_from t action.Upload (content ∷ []) mark.Verified no_digest (version_of num name)
 
-abbrev pub started : ℕ → ℕ → List ℕ → VersionOf Bytes
-started t num name = made t action.Start [] mark.Large twenty_zeros (version_of num name)
+abbrev pub start_at : ℕ → ℕ → List ℕ → VersionOf Bytes
+start_at t num name = version_from t action.Start [] mark.Large no_digest (version_of num name)
 
 abbrev pub with_versions : List (VersionOf Bytes) → State Bytes → State Bytes
 with_versions vs M = fold (λ N v. with_version v N) M vs
 
 abbrev pub id_in : ℕ → VersionId
 id_in num = record { bucket = 1; num = num }
+
+-- ---- what the versions of a state have, by their numbers
+
+abbrev pub numbers_in : State Bytes → List ℕ
+numbers_in M = map (λ v. v.num) M.versions
+
+abbrev pub stamps_in : State Bytes → List ℕ
+stamps_in M = map (λ v. v.stamp) M.versions
+
+abbrev pub contents_in : State Bytes → List (List Bytes)
+contents_in M = map (λ v. v.content) M.versions
+
+abbrev pub digests_in : State Bytes → List (List ℕ)
+digests_in M = map (λ v. v.digest) M.versions
+
+abbrev pub marks_in : State Bytes → List Mark
+marks_in M = map (λ v. v.mark) M.versions
+
+abbrev pub retentions_in : State Bytes → List (Option Retention)
+retentions_in M = map (λ v. v.retention) M.versions
+
+abbrev pub part_numbers_in : State Bytes → List (List ℕ)
+part_numbers_in M = map (λ v. map (λ p. p.number) v.parts) M.versions
+
+abbrev pub part_contents_in : State Bytes → List (List Bytes)
+part_contents_in M = map (λ v. map (λ p. p.content) v.parts) M.versions
+
+-- governance until the moment
+abbrev pub governance_until : ℕ → Option Retention
+governance_until t = Some (record { mode = Governance; until = t })

@@ -1,16 +1,17 @@
 -- Uploads of small files.
 use Rattle.std.specs.Prelude.{ℕ, false, List, [], ◌∷◌, Option, Some, None, codes, length}
-use Rattle.b2_model.specs.declared.kinds.TokenKind.TheVariants as token
-use Rattle.b2_model.specs.declared.key.Grant.{Grant}
-use Rattle.b2_model.specs.declared.key.Flight.{Flight}
-use Rattle.b2_model.specs.declared.upload.DigestRule.{DigestRule}
-use Rattle.b2_model.specs.declared.upload.DigestRule.TheVariants as rule
-use Rattle.b2_model.specs.declared.upload.FileUpload.{FileUpload}
-use Rattle.b2_model.specs.declared.upload.UploadCall.TheVariants as upload
+use Rattle.b2_types.specs.declared.kinds.TokenKind.TheVariants as token
+use Rattle.b2_types.specs.declared.fault.Fault.{Fault}
+use Rattle.b2_types.specs.declared.key.Grant.{Grant}
+use Rattle.b2_types.specs.declared.key.Flight.{Flight}
+use Rattle.b2_types.specs.declared.upload.DigestRule.{DigestRule}
+use Rattle.b2_types.specs.declared.upload.DigestRule.TheVariants as rule
+use Rattle.b2_types.specs.declared.upload.FileUpload.{FileUpload}
+use Rattle.b2_types.specs.declared.upload.UploadCall.TheVariants as upload
 use Rattle.b2_model.specs.State.{State}
 use Rattle.b2_model.specs.Ask.{Outcome}
-use Rattle.b2_model.specs.UploadSteps.{Begun, Body, begin, end, lost, body_of}
-use Rattle.worked_rows.specs.Store.{Bytes, words, photos_1, with_bucket, plain_type}
+use Rattle.b2_model.specs.UploadSteps.{Begun, Body, begin, end, without_flight, body_of}
+use Rattle.worked_rows.specs.Store.{Bytes, words, photos_1, with_bucket, plain_type, refusal}
 
 abbrev pub url_token : List ℕ
 url_token = codes "url"
@@ -24,7 +25,6 @@ ready = record (with_bucket photos_1) { grants = url_grant ∷ [] }
 
 abbrev pub upload_of : DigestRule → FileUpload
 upload_of digest = record {
-  token = Some url_token;
   bucket = 1;
   length = 3;
   digest = digest;
@@ -46,17 +46,17 @@ abbrev pub given_abc : FileUpload
 given_abc = upload_of (rule.Given digest_of_abc)
 
 abbrev pub flight : FileUpload → Flight
-flight u = record { conn = 1; grant = url_token; upload = upload.File u }
+flight u = record { conn = 1; token = url_token; upload = upload.File u }
 
 abbrev pub first : Begun Bytes
-first = begin ready 1000 1 (upload.File given_abc)
+first = begin ready 1000 1 (Some url_token) (upload.File given_abc)
 
 -- a second upload on the same URL
 abbrev pub second : Begun Bytes
-second = begin first.state 1500 2 (upload.File given_abc)
+second = begin first.state 1500 2 (Some url_token) (upload.File given_abc)
 
 abbrev pub after_loss : Begun Bytes
-after_loss = begin (lost second.state 1600 1) 1700 2 (upload.File given_abc)
+after_loss = begin (without_flight second.state 1600 1) 1700 2 (Some url_token) (upload.File given_abc)
 
 -- a body whose content is `abc`, and what its digits tell
 abbrev pub body_abc : Option (List ℕ) → Body Bytes
@@ -65,6 +65,15 @@ body_abc told = record { content = codes "abc"; digest = digest_of_abc; told = t
 -- an upload with this rule that ends with such a body
 abbrev pub ended_with : DigestRule → Option (List ℕ) → Outcome Bytes
 ended_with digest told = end length first.state 2000 (flight (upload_of digest)) (body_abc told) words
+
+abbrev pub end_refused : DigestRule → Option (List ℕ) → Option Fault
+end_refused digest told = refusal (ended_with digest told).answer
+
+abbrev pub at_end : Outcome Bytes
+at_end = ended_with rule.AtEnd (Some digest_of_abc)
+
+abbrev pub unverified : Outcome Bytes
+unverified = ended_with rule.NotVerified None
 
 abbrev pub abc : List ℕ
 abc = codes "abc"

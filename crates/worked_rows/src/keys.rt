@@ -3,19 +3,20 @@
 ghost use Rattle.std.specs.Prelude.{◌≡◌, [], ◌∷◌, None, Some, codes, map, option_map};
 ghost use Rattle.rule_table.specs.declared.cap.Cap.TheVariants.{ListKeys, ListFiles, ReadFiles};
 ghost use Rattle.rule_table.specs.declared.fault.FaultKind.TheVariants.{KeyCaps, KeyLimit, NoBucket, NoKey, Master, P6};
-ghost use Rattle.b2_model.specs.Checks.{plain};
-ghost use Rattle.worked_rows.specs.Store.{given, account};
-ghost use Rattle.worked_rows.specs.Keys.{made_by, refused_to, its_token, deletion_of, page, short, secret, secret_text, account_of, too_late};
+ghost use Rattle.b2_types.specs.Fault.{plain};
+ghost use Rattle.worked_rows.specs.Store.{master, account};
+ghost use Rattle.worked_rows.specs.Keys.{key_of_maker, ends_by, refused_to, its_token, deletion_of, page, short, secret, secret_text, account_of, too_late};
 
-/// A key has no more than its maker, and one that is limited to a bucket none of the five that reach
-/// beyond it; four words are drawn for its secret.
+/// A key has no more than its maker, and one that is limited to a bucket none of the five that
+/// reach beyond it; four words are drawn for its secret.
 pub fn new_keys()
     ensures caps { refused_to its_token (ReadFiles ∷ []) None ≡ Some (plain KeyCaps) }
-    ensures limit { refused_to given (ListKeys ∷ []) (Some (1 ∷ [])) ≡ Some (plain KeyLimit) }
-    ensures bucket { refused_to given (ListFiles ∷ []) (Some (2 ∷ [])) ≡ Some (plain NoBucket) }
-    ensures nums { map (λ k. k.num) (made_by its_token (ListFiles ∷ []) (Some (1 ∷ []))).state.keys ≡ 0 ∷ 1 ∷ 2 ∷ [] }
-    ensures ends { map (λ k. k.end) (made_by its_token (ListFiles ∷ []) None).state.keys ≡ None ∷ None ∷ Some 61000 ∷ [] }
-    ensures words { (made_by its_token (ListFiles ∷ []) None).words ≡ [] }
+    ensures limit { refused_to master (ListKeys ∷ []) (Some (1 ∷ [])) ≡ Some (plain KeyLimit) }
+    ensures bucket { refused_to master (ListFiles ∷ []) (Some (2 ∷ [])) ≡ Some (plain NoBucket) }
+    ensures nums { map (λ k. k.num) key_of_maker.state.keys ≡ 0 ∷ 1 ∷ 2 ∷ [] }
+    ensures next { key_of_maker.state.next_key ≡ 3 }
+    ensures ends { ends_by its_token ≡ None ∷ None ∷ Some 61000 ∷ [] }
+    ensures words { key_of_maker.words ≡ [] }
 {}
 
 /// The master key stays, and an id of another account names no key.

@@ -11,7 +11,6 @@ mod lifecycle;
 mod limited;
 mod listings;
 mod locked;
-mod runs;
 mod uploads;
 
 pub use authorized::{authorize, wrong_secret};
@@ -28,5 +27,4 @@ pub use lifecycle::lifecycle_days;
 pub use limited::{deleted_key, key_with_a_prefix, life_of_a_token};
 pub use listings::{listing_of_versions, listing_with_folders};
 pub use locked::{changes_of_retention, deletion_under_locks};
-pub use runs::{moments, restart, snapshots, uploads_in_a_run};
 pub use uploads::{busy_upload_url, digest_at_end, small_upload};

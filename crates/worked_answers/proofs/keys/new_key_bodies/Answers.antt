@@ -1,0 +1,11 @@
+use Rattle.std.proofs.Common.{refl}
+use Rattle.worked_answers.proofs.OnLiterals.{text_on_literals}
+use Rattle.worked_answers.proofs.keys.new_key_bodies.Goals as goal
+
+pub returns-clause-third_version : goal.returns-clause-third_version
+unfolding text_on_literals
+returns-clause-third_version c = refl
+
+pub returns-clause-fourth_version : goal.returns-clause-fourth_version
+unfolding text_on_literals
+returns-clause-fourth_version c = refl

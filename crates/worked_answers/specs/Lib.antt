@@ -1,0 +1,9 @@
+pub mod Bodies
+pub mod AccountTexts
+pub mod BucketTexts
+pub mod FileTexts
+pub mod ListingTexts
+pub mod Accounts
+pub mod Buckets
+pub mod Files
+pub mod Listings

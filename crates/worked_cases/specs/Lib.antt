@@ -1,0 +1,12 @@
+pub mod Pages
+pub mod Types
+pub mod Copies
+pub mod Keys
+pub mod Order
+pub mod Limits
+pub mod Uploads
+pub mod Deletions
+pub mod Cancelled
+pub mod Runs
+pub mod Steps
+pub mod Records

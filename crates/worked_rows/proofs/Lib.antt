@@ -1,0 +1,2 @@
+pub mod Sha1OnLiterals
+pub mod Sha256OnLiterals
