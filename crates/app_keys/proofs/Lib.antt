@@ -1,0 +1,4 @@
+pub mod Drawn
+pub mod Ids
+pub mod Pages
+pub mod Numbers
