@@ -1,0 +1,5 @@
+pub mod InAreas
+pub mod Moments
+pub mod Tears
+pub mod PastSteps
+pub mod ThreeImages

@@ -1,0 +1,12 @@
+pub mod Image
+pub mod Steps
+pub mod Whole
+pub mod State
+pub mod Areas
+pub mod Changes
+pub mod Outcomes
+pub mod Counts
+pub mod Flat
+pub mod Past
+pub mod FlatDisk
+pub mod MemDisk

@@ -1,0 +1,11 @@
+mod Cuts
+mod Fits
+mod Joins
+pub mod OneRoom
+mod Raises
+mod Returns
+mod Rooms
+pub mod Runs
+pub mod Takes
+pub mod Used
+mod Views
