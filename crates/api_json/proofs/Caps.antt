@@ -6,7 +6,7 @@ use Rattle.std.proofs.lemmas.Option.{slice_get_past, none-some}
 use Rattle.rule_table.specs.declared.cap.Cap.{Cap}
 use Rattle.rule_table.specs.Cap.{cap_order, cap_names, cap_place, cap_there}
 use Rattle.rule_table.specs.Rows.{texts}
-use Rattle.b2_model.specs.Said.{cap_name}
+use Rattle.wire_forms.specs.Body.{cap_name}
 
 below_or : (e : Cap) → (cap_place e < 26) ⊎ (26 ≤ cap_place e) → cap_place e < 26
 below_or e (inl below) = below

@@ -1,40 +1,46 @@
-//! The body of an account.
+//! The form of an account.
 
-ghost use Rattle.std.specs.Prelude.{◌≡◌, [], ◌∷◌, IfOk, OnOk, codes};
-ghost use Rattle.serde_json.specs.Written.{compact_text};
-ghost use Rattle.serde_json.specs.Data.{string};
+ghost use Rattle.std.specs.Prelude.{◌≡◌, IfOk, OnOk};
 ghost use Rattle.serde_json.specs.View.{view, members_view};
-ghost use Rattle.b2_model.specs.Said.{fields, or_null, storage_said, account_said};
-ghost use Rattle.api_json.specs.Account.{with_urls, with_limits};
+ghost use Rattle.b2_types.specs.declared.kinds.ApiVersion.TheVariants as version;
+ghost use Rattle.wire_forms.specs.Body.{limit_json, limits_json, storage_json, account_json};
+ghost use Rattle.api_json.specs.Put.{put_all};
 
-use crate::capabilities::cap_list;
-use crate::fields::{first_bucket, moment_or_null, put_number, put_text, text_unless_empty};
-use b2_base::{Memory, Text};
-use b2_model::ShownAccount;
-use json_shape::render;
-use name_rules::BucketName;
+use crate::to_json::{
+    ToJson, put_field, put_list_or_null, put_null, put_optional, put_text, put_unless_empty,
+};
+use b2_base::Memory;
+use b2_types::{ApiVersion, ShownAccount, ShownLimit};
 use serde_json::{Map, Value, put};
 use std::alloc::Global;
 
-fn name_or_null(alloc: Global, name: &Option<BucketName>) -> Result<Value, Memory>
-    ensures { IfOk result (λ v. view v ≡ or_null string name.now) }
-{
-    match name {
-        Some(name) => Ok(Value::String(String::from_str(alloc, name.get())?)),
-        None => Ok(Value::Null),
+impl ToJson for ShownLimit {
+    ghost form = { limit_json };
+
+    fn to_json(&self, alloc: Global) -> Result<Value, Memory> {
+        let mut map = Map::new(alloc);
+        put_field(&mut map, alloc, "id", &self.bucket)?;
+        put_optional(&mut map, alloc, "name", &self.name)?;
+        Ok(Value::Object(map))
     }
 }
 
-fn put_urls(
+fn put_first_limit(
     map: &mut Map<String, Value>,
     alloc: Global,
-    account: &ShownAccount,
+    limits: &[ShownLimit],
 ) -> Result<(), Memory>
-    ensures { OnOk result (members_view map.new.entries ≡ with_urls account.now (members_view map.old.entries)) }
+    ensures { OnOk result
+        (members_view map.new.entries
+        ≡ put_all (members_view map.old.entries) (limits_json version.V3 limits.now)) }
 {
-    put_text(map, alloc, "apiUrl", account.url.get())?;
-    put_text(map, alloc, "downloadUrl", account.url.get())?;
-    put_text(map, alloc, "infoType", "storageApi")?;
+    let Some(limit) = limits.first() else {
+        put_null(map, alloc, "bucketId")?;
+        put_null(map, alloc, "bucketName")?;
+        return Ok(());
+    };
+    put_field(map, alloc, "bucketId", &limit.bucket)?;
+    put_optional(map, alloc, "bucketName", &limit.name)?;
     Ok(())
 }
 
@@ -43,71 +49,54 @@ fn put_limits(
     alloc: Global,
     account: &ShownAccount,
 ) -> Result<(), Memory>
-    ensures { OnOk result (members_view map.new.entries ≡ with_limits account.now (members_view map.old.entries)) }
+    ensures { OnOk result
+        (members_view map.new.entries
+        ≡ put_all (members_view map.old.entries)
+        (limits_json account.now.version account.now.buckets)) }
 {
-    put(
-        map,
-        alloc,
-        "bucketId",
-        first_bucket(alloc, account.buckets.get())?,
-    )?;
-    put(
-        map,
-        alloc,
-        "bucketName",
-        name_or_null(alloc, &account.bucket_name)?,
-    )?;
-    put(
-        map,
-        alloc,
-        "namePrefix",
-        text_unless_empty(alloc, account.prefix.get())?,
-    )?;
-    Ok(())
+    let limits = account.buckets.get();
+    match account.version {
+        ApiVersion::V3 => put_first_limit(map, alloc, limits),
+        ApiVersion::V4 => put_list_or_null(map, alloc, "buckets", limits),
+    }
 }
 
 fn storage(alloc: Global, account: &ShownAccount) -> Result<Value, Memory>
-    ensures { IfOk result (λ v. view v ≡ storage_said account.now) }
+    ensures { IfOk result (λ v. view v ≡ storage_json account.now) }
 {
     let mut map = Map::new(alloc);
-    put_urls(&mut map, alloc, account)?;
-    put_limits(&mut map, alloc, account)?;
-    put(
+    put_field(
         &mut map,
         alloc,
-        "capabilities",
-        cap_list(alloc, &account.caps)?,
+        "absoluteMinimumPartSize",
+        &account.part_min,
     )?;
-    put_number(&mut map, alloc, "absoluteMinimumPartSize", account.part_min)?;
-    put_number(&mut map, alloc, "recommendedPartSize", 100_000_000)?;
+    put_field(&mut map, alloc, "apiUrl", &account.url)?;
+    put_limits(&mut map, alloc, account)?;
+    put_field(&mut map, alloc, "capabilities", &account.caps)?;
+    put_field(&mut map, alloc, "downloadUrl", &account.url)?;
+    put_text(&mut map, alloc, "infoType", "storageApi")?;
+    put_unless_empty(&mut map, alloc, "namePrefix", account.prefix.get())?;
+    put_field(&mut map, alloc, "recommendedPartSize", &100_000_000u64)?;
     Ok(Value::Object(map))
 }
 
-fn api(alloc: Global, account: &ShownAccount) -> Result<Value, Memory>
-    ensures { IfOk result (λ v. view v ≡ fields ((codes "storageApi", storage_said account.now) ∷ [])) }
-{
-    let mut map = Map::new(alloc);
-    put(&mut map, alloc, "storageApi", storage(alloc, account)?)?;
-    Ok(Value::Object(map))
-}
+impl ToJson for ShownAccount {
+    ghost form = { account_json };
 
-fn account_value(alloc: Global, account: &ShownAccount) -> Result<Value, Memory>
-    ensures { IfOk result (λ v. view v ≡ account_said account.now) }
-{
-    let mut map = Map::new(alloc);
-    put_text(&mut map, alloc, "accountId", account.account.get())?;
-    put(&mut map, alloc, "apiInfo", api(alloc, account)?)?;
-    let end = moment_or_null(account.end);
-    put(&mut map, alloc, "applicationKeyExpirationTimestamp", end)?;
-    put_text(&mut map, alloc, "authorizationToken", account.token.get())?;
-    Ok(Value::Object(map))
-}
-
-/// The body of the reply that gives the account a token: JSON with no space in it.
-pub fn account_body(alloc: Global, account: &ShownAccount) -> Result<Text, Memory>
-    ensures { IfOk result (λ t. t ≡ compact_text (account_said account.now)) }
-{
-    let value = account_value(alloc, account)?;
-    let text = render(alloc, &value)?;
-    Ok(text)
+    fn to_json(&self, alloc: Global) -> Result<Value, Memory> {
+        let mut apis = Map::new(alloc);
+        put(&mut apis, alloc, "storageApi", storage(alloc, self)?)?;
+        let mut map = Map::new(alloc);
+        put_field(&mut map, alloc, "accountId", &self.account)?;
+        put(&mut map, alloc, "apiInfo", Value::Object(apis))?;
+        put_optional(
+            &mut map,
+            alloc,
+            "applicationKeyExpirationTimestamp",
+            &self.end,
+        )?;
+        put_field(&mut map, alloc, "authorizationToken", &self.token)?;
+        Ok(Value::Object(map))
+    }
 }

@@ -16,8 +16,8 @@ use Rattle.httparse.proofs.TrimLemmas.{AllPass-trim_ows}
 use Rattle.http_header.specs.Token as token
 use Rattle.http_header.specs.FieldValue.{FieldValue, plain_value}
 use Rattle.http_header.specs.Token.{lowercase}
-use Rattle.http_edge.specs.Headers.{IsClean}
-use Rattle.http_edge.specs.Request.{is_read, headers_by}
+use Rattle.http_edge.specs.Steps.{IsClean}
+use Rattle.http_edge.specs.Headers.{is_read, headers_by}
 
 -- the two ports have the same bytes of a token
 same_byte : (b : ℕ) → is_token_byte b ≡ token.is_token_byte b
@@ -61,9 +61,9 @@ module _ {X : Type 0} where
       let old = count_cons e m in
       let there = count_cons (e.0, e.1 ++ value ∷ []) m in
       let more = length-append e.1 (value ∷ []) in
-      let behind = count_cons e (append m name value) in
+      let after = count_cons e (append m name value) in
       elim (bytes_eq e.0 name) as (λ t. value_count (cond t ((e.0, e.1 ++ value ∷ []) ∷ m) (e ∷ append m name value)) ≡ value_count (e ∷ m) + 1)
-      [ true ↦ omega (arith, old, there, more) | false ↦ omega (arith, old, behind, later) ]
+      [ true ↦ omega (arith, old, there, more) | false ↦ omega (arith, old, after, later) ]
 
 abbrev with_pair : Entries FieldValue → List ℕ × List ℕ → Entries FieldValue
 with_pair m pair = append m (lowercase pair.0) (plain_value pair.1)
@@ -82,7 +82,7 @@ values_from m (pair ∷ pairs) =
     let others = values_from (with_pair m pair) pairs in
     omega (arith, first, others)
 
--- the next of them: it stands behind those of its name where calls read it, and is passed over elsewhere
+-- the next of them: it stands after those of its name where calls read it, and is passed over elsewhere
 abbrev with_read : Entries FieldValue → List ℕ × List ℕ → Entries FieldValue
 with_read m pair = cond (is_read (lowercase pair.0)) (with_pair m pair) m
 

@@ -3,7 +3,7 @@ use Rattle.std.proofs.Common.{◌≡◌, ◌≢◌, ℕ, ◌+◌, ◌<◌, ◌�
 use Rattle.std.proofs.lemmas.List.{get_or-take, get_or-drop, length-take-le, length-drop}
 use Rattle.memchr.specs.Find.{Nowhere, Passes, is_byte}
 use Rattle.std.proofs.lemmas.Bool.{cases_lt, eqb-true}
-use Rattle.http_edge.specs.Cut.{IsEmptyLine, HasBegun, IsEnd, IsOther, EndsLine, HasOther}
+use Rattle.http_edge.specs.Cut.{IsEmptyLine, HasBegun, IsEnd, NoEnd, IsOther, EndsLine, HasOther}
 
 not_at : (bytes : List ℕ) (i j byte : ℕ) → i ≡ j → slice_index bytes j ≡ byte → slice_index bytes i ≡ byte
 not_at bytes i j byte same is = ap (slice_index bytes) same ∙ is
@@ -32,12 +32,34 @@ starts_before bytes start end (inr three) = omega (arith, three.0)
 pub other_before : (bytes : List ℕ) (at start : ℕ) → IsEmptyLine bytes start (at + 1) → HasBegun bytes start → HasOther bytes at
 other_before bytes at start line (i, below, within, not_cr, not_lf) = let line_from = starts_before bytes start (at + 1) line in (i, omega (arith, below, line_from), (not_cr, not_lf))
 
--- no empty line ends up to the place behind this byte
-pub none_more : (bytes : List ℕ) (at end : ℕ) → ((end : ℕ) → end ≤ at → IsEnd bytes end → ⊥) → (HasOther bytes at → EndsLine bytes at → ⊥) → end ≤ at + 1 → (end < at + 1) ⊎ (at + 1 ≤ end) → IsEnd bytes end → ⊥
-none_more bytes at end before not_here most (inl lower) is = before end (omega (arith, lower)) is
-none_more bytes at end before not_here most (inr higher) (start, line, begun) =
-    let here : IsEmptyLine bytes start (at + 1) = subst (IsEmptyLine bytes start) (omega (arith, most, higher)) line in
-    not_here (other_before bytes at start here begun) (start, here)
+-- no end stands up to the place after this byte
+pub none_more : (bytes : List ℕ) (at : ℕ) → NoEnd bytes at → (IsEnd bytes (at + 1) → ⊥) → NoEnd bytes (at + 1)
+none_more bytes at before not_here end most is = by_place (cases_lt end (at + 1))
+  where
+    by_place : (end < at + 1) ⊎ (at + 1 ≤ end) → ⊥
+    by_place (inl lower) = before end (omega (arith, lower)) is
+    by_place (inr higher) = not_here (subst (IsEnd bytes) (omega (arith, most, higher)) is)
+
+-- ---- the way back
+
+-- only CR and LF stand from one place up to another
+abbrev pub NoOther : List ℕ → ℕ → ℕ → Type 0
+NoOther bytes from at = (i : ℕ) → from ≤ i → i < at → IsOther (slice_index bytes i) → ⊥
+
+pub none_from : (bytes : List ℕ) (from at : ℕ) → NoOther bytes (from + 1) at → (IsOther (slice_index bytes from) → ⊥) → NoOther bytes from at
+none_from bytes from at further not_here i least below other = by_place (cases_lt i (from + 1))
+  where
+    by_place : (i < from + 1) ⊎ (from + 1 ≤ i) → ⊥
+    by_place (inl first) = not_here (subst (λ k. IsOther (slice_index bytes k)) (omega (arith, first, least)) other)
+    by_place (inr later) = further i later below other
+
+-- an empty line on the way back that is no end has nothing before it
+pub none_before : (bytes : List ℕ) (from at : ℕ) → from < at → at < length bytes → NoEnd bytes at → EndsLine bytes from → NoOther bytes from at → HasOther bytes at → ⊥
+none_before bytes from at back within none line clean (i, below, other) = by_place (cases_lt i from)
+  where
+    by_place : (i < from) ⊎ (from ≤ i) → ⊥
+    by_place (inl lower) = none (from + 1) (omega (arith, back)) (is_end bytes from (omega (arith, back, within)) line (i, lower, other))
+    by_place (inr higher) = clean i higher below other
 
 -- an empty line ends in the bytes
 pub ends_within : (bytes : List ℕ) (start end : ℕ) → IsEmptyLine bytes start end → end ≤ length bytes
@@ -54,21 +76,13 @@ line_ends : (bytes : List ℕ) (at place start end : ℕ) → NoLine bytes at pl
 line_ends bytes at place start end none most more (inl two) = none (start + 1) (omega (arith, two.0, more)) (omega (arith, two.0, most)) two.2.1
 line_ends bytes at place start end none most more (inr three) = none (start + 2) (omega (arith, three.0, more)) (omega (arith, three.0, most)) three.3.1
 
-up_to : (bytes : List ℕ) (at place end : ℕ) → ((end : ℕ) → end ≤ at → IsEnd bytes end → ⊥) → NoLine bytes at place → end ≤ place → (at < end) ⊎ (end ≤ at) → IsEnd bytes end → ⊥
+up_to : (bytes : List ℕ) (at place end : ℕ) → NoEnd bytes at → NoLine bytes at place → end ≤ place → (at < end) ⊎ (end ≤ at) → IsEnd bytes end → ⊥
 up_to bytes at place end before none most (inl more) (start, line, begun) = line_ends bytes at place start end none most more line
 up_to bytes at place end before none most (inr less) is = before end less is
 
--- no empty line ends up to the next line feed
-pub none_up_to : (bytes : List ℕ) (at place end : ℕ) → ((end : ℕ) → end ≤ at → IsEnd bytes end → ⊥) → NoLine bytes at place → end ≤ place → IsEnd bytes end → ⊥
-none_up_to bytes at place end before none most = up_to bytes at place end before none most (cases_lt at end)
-
--- none ends before the head begins
-pub none_in_front : (bytes : List ℕ) (begin end : ℕ) → ((i : ℕ) → i + 1 < begin → IsOther (slice_index bytes i) → ⊥) → end ≤ begin → IsEnd bytes end → ⊥
-none_in_front bytes begin end before most (start, line, (i, below, within, not_cr, not_lf)) =
-    let line_from = starts_before bytes start end line in before i (omega (arith, below, line_from, most)) (not_cr, not_lf)
-
-pub other_further : (bytes : List ℕ) (at place : ℕ) → at ≤ place → HasOther bytes at → HasOther bytes place
-other_further bytes at place more (i, below, other) = (i, omega (arith, below, more), other)
+-- no end stands up to the next line feed
+pub none_up_to : (bytes : List ℕ) (at place : ℕ) → NoEnd bytes at → NoLine bytes at place → NoEnd bytes place
+none_up_to bytes at place before none end most = up_to bytes at place end before none most (cases_lt at end)
 
 -- what stands in a window of the bytes
 in_window : (bytes : List ℕ) (at limit i : ℕ) → at ≤ i → i < limit → slice_index (take (limit - at) (drop at bytes)) (i - at) ≡ slice_index bytes i

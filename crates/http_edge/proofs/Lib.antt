@@ -1,12 +1,8 @@
-pub mod Bools
-pub mod Ends
 pub mod Clean
-pub mod Paths
+pub mod Ends
+pub mod Fronts
+pub mod Heads
+pub mod Options
 pub mod Once
 pub mod Receiving
-pub mod Heads
 pub mod Texts
-pub mod Lengths
-pub mod Fronts
-pub mod Routes
-pub mod Sendable

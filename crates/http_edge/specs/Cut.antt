@@ -12,7 +12,7 @@ most_head = 16384
 abbrev pub Stands : List ℕ → ℕ → ℕ → Type 0
 Stands bytes at byte = (at < length bytes) × (slice_index bytes at ≡ byte)
 
--- a line feed, and the empty line behind it, from one place up to another
+-- a line feed, and the empty line after it, from one place up to another
 abbrev pub IsEmptyLine : List ℕ → ℕ → ℕ → Type 0
 IsEmptyLine bytes start end =
     ((end ≡ start + 2) × Stands bytes start 10 × Stands bytes (start + 1) 10)
@@ -41,7 +41,7 @@ IsCut bytes TooLong = (most_head ≤ length bytes) × NoEnd bytes most_head
 abbrev pub IsOther : ℕ → Type 0
 IsOther byte = (byte ≡ 13 → ⊥) × (byte ≡ 10 → ⊥)
 
--- an empty line ends behind the byte at this place
+-- an empty line ends after the byte at this place
 abbrev pub EndsLine : List ℕ → ℕ → Type 0
 EndsLine bytes at = (start : ℕ) × IsEmptyLine bytes start (at + 1)
 

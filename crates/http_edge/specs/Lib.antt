@@ -1,6 +1,8 @@
-pub mod Request
-pub mod Headers
 pub mod Cut
-pub mod Reply
+pub mod Headers
+pub mod Length
+pub mod Stay
+pub mod Request
 pub mod Received
-pub mod Route
+pub mod Reply
+pub mod Steps

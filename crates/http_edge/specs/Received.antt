@@ -1,43 +1,39 @@
--- What the bytes that came on a connection come to (RFC 9112, sections 2 and 6): a head is cut off, read,
--- routed and measured, and the body is the bytes behind it. Bytes behind the body do nothing.
+-- What the bytes that came on a connection come to (RFC 9112, sections 2 and 6): a head is cut off and read,
+-- and the body is the bytes after it. Bytes after the body do nothing.
 use Rattle.std.specs.Prelude.{◌≡◌, ◌⊎◌, ℕ, nat_le, List, length, take, drop, if◌then◌else◌}
-use Rattle.httparse.specs.Grammar.{RequestHead}
 use Rattle.rule_table.specs.declared.fault.FaultKind.{FaultKind}
-use Rattle.rule_table.specs.declared.fault.FaultKind.TheVariants.{BadHead, LongHead, BadLength}
-use Rattle.b2_model.specs.declared.request.Request.{Request}
+use Rattle.rule_table.specs.declared.fault.FaultKind.TheVariants.{LongHead}
+use Rattle.wire_forms.specs.declared.request.Request.{Request}
+use Rattle.call_paths.specs.declared.routes.Route.{Route}
 use Rattle.http_edge.specs.declared.cut.Cut.{Cut}
 use Rattle.http_edge.specs.declared.cut.Cut.TheVariants.{Head, NotYet, TooLong}
-use Rattle.http_edge.specs.declared.route.Route.{Route}
 use Rattle.http_edge.specs.Cut.{IsCut}
-use Rattle.http_edge.specs.Route.{IsRouted, IsRouteFault}
-use Rattle.http_edge.specs.Request.{IsHead, HasHead, path_of, headers_of, lengths, told_length, is_bad_length, request_of}
+use Rattle.http_edge.specs.Length.{is_upload}
+use Rattle.http_edge.specs.Request.{IsRequest, IsHeadFault}
 
 pub data Received : Type 0 where
-  -- its head or its body has not come whole
+  -- the head has not come whole, or the body of a request that is no upload
   unfinished : Received
   -- its form is refused
   malformed : FaultKind → Received
+  -- the head of an upload, whose body has not come whole
+  announced : Request → Route → Received
   -- a request, the call that it is for, and its body
   whole : Request → Route → List ℕ → Received
 
--- a body of this length among the bytes behind the head
-abbrev pub with_body : RequestHead → Route → ℕ → List ℕ → Received
-with_body h route len rest = if nat_le len (length rest) then whole (request_of h len) route (take len rest) else unfinished
+-- a request whose body has not come whole
+abbrev pub without_body : Request → Route → Received
+without_body r route = if is_upload route.name then announced r route else unfinished
 
--- the length of a request for this call is judged
-abbrev pub measured : RequestHead → Route → List ℕ → Received
-measured h route rest =
-    if is_bad_length route.name (headers_of h) then malformed BadLength else with_body h route (told_length (lengths (headers_of h))) rest
+-- its body among the bytes after the head
+abbrev pub with_body : Request → Route → List ℕ → Received
+with_body r route rest = if nat_le r.length (length rest) then whole r route (take r.length rest) else without_body r route
 
--- the head is for no call, or for this one
-abbrev pub IsRoutedTo : RequestHead → List ℕ → Received → Type 0
-IsRoutedTo h rest received =
-    ((kind : FaultKind) × IsRouteFault h.method (path_of h) kind × (received ≡ malformed kind))
-    ⊎ ((route : Route) × IsRouted h.method (path_of h) route × (received ≡ measured h route rest))
-
--- the bytes of the head are none, or this one
+-- the bytes of the head are read, and these are the bytes after it
 abbrev pub IsReadAs : List ℕ → List ℕ → Received → Type 0
-IsReadAs bytes rest received = ((HasHead bytes → ⊥) × (received ≡ malformed BadHead)) ⊎ ((h : RequestHead) × IsHead bytes h × IsRoutedTo h rest received)
+IsReadAs bytes rest received =
+    ((kind : FaultKind) × IsHeadFault bytes kind × (received ≡ malformed kind))
+    ⊎ ((r : Request) × (route : Route) × IsRequest bytes r route × (received ≡ with_body r route rest))
 
 -- how the bytes are cut
 abbrev pub IsCutTo : List ℕ → Cut → Received → Type 0
@@ -47,3 +43,7 @@ IsCutTo bytes (Head end) received = IsReadAs (take end bytes) (drop end bytes) r
 
 abbrev pub IsReceived : List ℕ → Received → Type 0
 IsReceived bytes received = (cut : Cut) × IsCut bytes cut × IsCutTo bytes cut received
+
+-- the bytes begin with the whole head of this request
+abbrev pub HasRequest : List ℕ → Request → Route → Type 0
+HasRequest bytes r route = (end : ℕ) × IsCut bytes (Head end) × IsRequest (take end bytes) r route

@@ -1,116 +1,89 @@
--- The bytes that answer a request: a head (RFC 9112, sections 4 to 6; RFC 9110, sections 14.4 and 15), and
--- a body of JSON or the content that was asked for.
-use Rattle.std.specs.Prelude.{◌≡◌, ℕ, ◌+◌, ◌-◌, ◌<◌, ◌≤◌, ◌==◌, true, List, [], ◌∷◌, ◌++◌, if◌then◌else◌, length, take, drop, Option, Some, unwrap_or, option_map, codes, decimal}
+-- The bytes that answer a request: a head (RFC 9112, sections 4 to 6 and 9.3; RFC 9110, sections 14.4 and
+-- 15), and a body of JSON or the content that was asked for.
+use Rattle.std.specs.Prelude.{ℕ, ◌+◌, ◌-◌, Bool, List, [], ◌∷◌, ◌++◌, if◌then◌else◌, length, take, drop, Option, Some, None, unwrap_or, option_map, codes, decimal}
 use Rattle.std.specs.List.{flat_map}
 use Rattle.serde_json.specs.Written.{compact_text}
 use Rattle.b2_base.specs.FileId.{file_id}
 use Rattle.name_rules.specs.Escape.{encoded_name}
-use Rattle.b2_model.specs.declared.call.ByteRange.{ByteRange}
-use Rattle.b2_model.specs.declared.call.ByteRange.TheVariants as range
-use Rattle.b2_model.specs.declared.call.Call.{Call}
-use Rattle.b2_model.specs.declared.call.Call.TheVariants as call
-use Rattle.b2_model.specs.declared.shown.ContentOf.{ContentOf}
-use Rattle.b2_model.specs.declared.shown.ShownFile.{ShownFile}
-use Rattle.b2_model.specs.declared.shown.AnswerOf.{AnswerOf}
-use Rattle.b2_model.specs.declared.shown.AnswerOf.TheVariants as answer
-use Rattle.b2_model.specs.FaultTable.{answer_status}
-use Rattle.b2_model.specs.Said.{said, digest_text}
+use Rattle.b2_types.specs.declared.answer.AnswerOf.{AnswerOf}
+use Rattle.b2_types.specs.declared.answer.AnswerOf.TheVariants as answer
+use Rattle.b2_types.specs.declared.answer.ContentOf.{ContentOf}
+use Rattle.b2_types.specs.declared.answer.Span.{Span}
+use Rattle.b2_types.specs.declared.shown.ShownFile.{ShownFile}
+use Rattle.b2_types.specs.Answer.{status_line}
+use Rattle.b2_types.specs.FaultTable.{Status}
+use Rattle.wire_forms.specs.Body.{body_of, refusal_json, digest_text}
 
 abbrev pub line_end : List ℕ
 line_end = 13 ∷ 10 ∷ []
 
--- the reason of a status
-abbrev pub reason_of : ℕ → List ℕ
-reason_of status =
-    if status == 200 then codes "OK"
-    else (if status == 206 then codes "Partial Content"
-    else (if status == 400 then codes "Bad Request"
-    else (if status == 401 then codes "Unauthorized"
-    else (if status == 403 then codes "Forbidden"
-    else (if status == 404 then codes "Not Found"
-    else (if status == 405 then codes "Method Not Allowed"
-    else (if status == 409 then codes "Conflict"
-    else (if status == 416 then codes "Range Not Satisfiable"
-    else codes "Service Unavailable"))))))))
+-- ---- the head
 
--- the head of a reply whose body is JSON of this length
-abbrev pub json_head : ℕ → ℕ → List ℕ
-json_head status len =
-    codes "HTTP/1.1 " ++ decimal status ++ codes " " ++ reason_of status ++ line_end
-    ++ codes "Content-Type: application/json;charset=utf-8" ++ line_end
+abbrev pub status_text : Status → List ℕ
+status_text status = codes "HTTP/1.1 " ++ decimal status.number ++ codes " " ++ status.reason ++ line_end
+
+-- what is said of a body of JSON of this length
+abbrev pub json_headers : ℕ → List ℕ
+json_headers len =
+    codes "Content-Type: application/json;charset=utf-8" ++ line_end
     ++ codes "Content-Length: " ++ decimal len ++ line_end
-    ++ codes "Connection: close" ++ line_end
-    ++ line_end
 
--- which bytes of the content are sent, where a range was asked for
-abbrev pub range_header : {C : Type 0} → ContentOf C → List ℕ
-range_header c =
-    if c.part then codes "Content-Range: bytes " ++ decimal c.at ++ codes "-" ++ decimal (c.at + c.len - 1) ++ codes "/" ++ decimal c.file.length ++ line_end
-    else []
+-- which bytes of a content of this length are sent, where a range was asked for
+abbrev pub range_header : ℕ → Option Span → List ℕ
+range_header length None = []
+range_header length (Some span) =
+    codes "Content-Range: bytes " ++ decimal span.at ++ codes "-" ++ decimal (span.at + span.len - 1) ++ codes "/" ++ decimal length ++ line_end
 
 abbrev pub info_header : List ℕ × List ℕ → List ℕ
 info_header pair = codes "X-Bz-Info-" ++ pair.0 ++ codes ": " ++ encoded_name pair.1 ++ line_end
 
-abbrev pub digest_shown : ShownFile → List ℕ
-digest_shown f = unwrap_or (option_map digest_text f.digest) (codes "none")
+abbrev pub digest_header : ShownFile → List ℕ
+digest_header f = unwrap_or (option_map digest_text f.digest) (codes "none")
 
 -- what is said of the file
 abbrev pub file_headers : ShownFile → List ℕ
 file_headers f =
     codes "X-Bz-File-Id: " ++ file_id f.bucket f.num ++ line_end
     ++ codes "X-Bz-File-Name: " ++ encoded_name f.name ++ line_end
-    ++ codes "X-Bz-Content-Sha1: " ++ digest_shown f ++ line_end
+    ++ codes "X-Bz-Content-Sha1: " ++ digest_header f ++ line_end
     ++ codes "X-Bz-Upload-Timestamp: " ++ decimal f.stamp ++ line_end
     ++ flat_map info_header f.info
 
--- 206 where a range was asked for
-abbrev pub content_status : {C : Type 0} → ContentOf C → ℕ
-content_status c = if c.part then 206 else 200
-
--- the status line, and what is said of the body
-abbrev pub first_lines : {C : Type 0} → ContentOf C → ℕ → List ℕ
-first_lines c len =
-    codes "HTTP/1.1 " ++ decimal (content_status c) ++ codes " " ++ reason_of (content_status c) ++ line_end
-    ++ codes "Content-Type: " ++ unwrap_or c.file.kind [] ++ line_end
+-- what is said of a content, of which so many bytes are sent
+abbrev pub content_headers : {C : Type 0} → ContentOf C → ℕ → List ℕ
+content_headers c len =
+    codes "Content-Type: " ++ unwrap_or c.file.kind [] ++ line_end
     ++ codes "Content-Length: " ++ decimal len ++ line_end
-
--- the head of a reply whose body is a content, or a range of it
-abbrev pub content_head : {C : Type 0} → ContentOf C → ℕ → List ℕ
-content_head c len =
-    first_lines c len
-    ++ range_header c
+    ++ range_header c.file.length c.range
     ++ codes "Accept-Ranges: bytes" ++ line_end
     ++ file_headers c.file
-    ++ codes "Connection: close" ++ line_end
-    ++ line_end
+
+abbrev pub body_headers : {C : Type 0} → AnswerOf C → ℕ → List ℕ
+body_headers (answer.Json shown) len = json_headers len
+body_headers (answer.Content c) len = content_headers c len
+body_headers (answer.Refused fault) len = json_headers len
+
+-- whether the connection stays open after the reply
+abbrev pub connection_header : Bool → List ℕ
+connection_header stay = codes "Connection: " ++ (if stay then codes "keep-alive" else codes "close") ++ line_end
 
 -- the head of the reply to an answer, whose body has this length
-abbrev pub reply_head : {C : Type 0} → AnswerOf C → ℕ → List ℕ
-reply_head (answer.Content c) len = content_head c len
-reply_head other len = json_head (answer_status other) len
+abbrev pub reply_head : {C : Type 0} → AnswerOf C → ℕ → Bool → List ℕ
+reply_head answer len stay = status_text (status_line answer) ++ body_headers answer len ++ connection_header stay ++ line_end
 
--- a range has a byte, and lies in the content
-abbrev pub IsSendable : {C : Type 0} → AnswerOf C → Type 0
-IsSendable (answer.Content c) = c.part ≡ true → (0 < c.len) × (c.at + c.len ≤ c.file.length)
-IsSendable other = Unit {0}
+-- ---- the body
 
--- a range ends where it begins, or behind it
-abbrev pub IsInOrder : Option ByteRange → Type 0
-IsInOrder (Some (range.Between a b)) = a ≤ b
-IsInOrder other = Unit {0}
+-- the range of a content, or all of it
+abbrev pub in_range : Option Span → List ℕ → List ℕ
+in_range None bytes = bytes
+in_range (Some span) bytes = take span.len (drop span.at bytes)
 
--- so does the range that the call asks for, where it is for one
-abbrev pub AsksInOrder : Call → Type 0
-AsksInOrder (call.DownloadFileById c) = IsInOrder c.range
-AsksInOrder (call.DownloadFileByName c) = IsInOrder c.range
-AsksInOrder other = Unit {0}
-
--- the body: the compact JSON text of what the answer says, or the bytes of the content from the first
--- that was asked for
-abbrev pub body_of : AnswerOf (List ℕ) → List ℕ
-body_of (answer.Content c) = take c.len (drop c.at (flat_map (λ piece. piece) c.content))
-body_of other = compact_text (said other)
+-- the compact JSON text of what the answer says, or the bytes of the content
+abbrev pub reply_body : AnswerOf (List ℕ) → List ℕ
+reply_body (answer.Json shown) = compact_text (body_of shown)
+reply_body (answer.Content c) = in_range c.range (flat_map (λ piece. piece) c.content)
+reply_body (answer.Refused fault) = compact_text (refusal_json fault)
 
 -- the bytes that answer
-abbrev pub reply_of : AnswerOf (List ℕ) → List ℕ
-reply_of answer = reply_head answer (length (body_of answer)) ++ body_of answer
+abbrev pub reply_of : AnswerOf (List ℕ) → Bool → List ℕ
+reply_of answer stay = reply_head answer (length (reply_body answer)) stay ++ reply_body answer

@@ -1,33 +1,33 @@
-//! The head of a reply whose body is a content.
+//! What the head of a reply says of a content.
 
-ghost use Rattle.std.specs.Prelude.{◌≡◌, ◌<◌, ◌≤◌, ◌+◌, [], true, unwrap_or, string_bytes, IfOk};
+ghost use Rattle.std.specs.Prelude.{◌≡◌, [], unwrap_or, string_bytes, IfOk};
 ghost use Rattle.std.specs.List.{flat_map};
-ghost use Rattle.http_edge.specs.Reply.{content_head, content_status, file_headers, first_lines, info_header, range_header, digest_shown};
+ghost use Rattle.b2_types.specs.Answer.{IsSpanIn};
+ghost use Rattle.http_edge.specs.Reply.{content_headers, digest_header, file_headers, info_header, range_header};
 
-use crate::reply::reason_of;
 use b2_base::{FileId, Memory, Text};
-use b2_model::{ContentOf, ShownFile};
+use b2_types::{ContentOf, ShownFile, Span};
 use name_rules::encode_text;
 use std::alloc::Global;
+use wire_forms::digest_text;
 
-fn range_line<C>(alloc: Global, content: &ContentOf<C>) -> Result<String, Memory>
-    requires { content.now.part ≡ true → (0 < content.now.len) × (content.now.at + content.now.len ≤ content.now.file.length) }
-    ensures { IfOk result (λ t. string_bytes t ≡ range_header content.now) }
+fn range_line(alloc: Global, length: u64, range: Option<Span>) -> Result<String, Memory>
+    requires { IsSpanIn length range }
+    ensures { IfOk result (λ t. string_bytes t ≡ range_header length range) }
 {
-    if !content.part {
+    let Some(span) = range else {
         return Ok(String::new(alloc));
-    }
-    let first = content.at;
-    let length = content.file.length;
-    let last = first + content.len - 1;
+    };
+    let first = span.at;
+    let last = first + span.len - 1;
     Ok(format!(in alloc; "Content-Range: bytes {first}-{last}/{length}\r\n")?)
 }
 
 fn digest_shown(alloc: Global, file: &ShownFile) -> Result<Text, Memory>
-    ensures { IfOk result (λ t. t ≡ digest_shown file.now) }
+    ensures { IfOk result (λ t. t ≡ digest_header file.now) }
 {
     match &file.digest {
-        Some(digest) => digest.text(alloc),
+        Some(digest) => digest_text(alloc, digest),
         None => Text::copy(alloc, "none"),
     }
 }
@@ -76,38 +76,19 @@ fn kind_shown(file: &ShownFile) -> &str
     }
 }
 
-fn content_status<C>(content: &ContentOf<C>) -> u16
-    ensures { result ≡ content_status content.now }
-{
-    if content.part { 206 } else { 200 }
-}
-
-// The status line, and the headers of the body.
-fn first_lines<C>(alloc: Global, content: &ContentOf<C>, len: u64) -> Result<String, Memory>
-    ensures { IfOk result (λ t. string_bytes t ≡ first_lines content.now len) }
-{
-    let status = content_status(content);
-    let reason = reason_of(status);
-    let kind = kind_shown(&content.file);
-    Ok(format!(in alloc;
-        "HTTP/1.1 {status} {reason}\r\nContent-Type: {kind}\r\nContent-Length: {len}\r\n"
-    )?)
-}
-
-/// The head of a reply whose body is the content, or the range of it that was asked for.
-pub(crate) fn content_head<C>(
+/// What the head says of the content, of which `len` bytes are sent.
+pub(crate) fn content_lines<C>(
     alloc: Global,
     content: &ContentOf<C>,
     len: u64,
-) -> Result<Text, Memory>
-    requires { content.now.part ≡ true → (0 < content.now.len) × (content.now.at + content.now.len ≤ content.now.file.length) }
-    ensures { IfOk result (λ t. t ≡ content_head content.now len) }
+) -> Result<String, Memory>
+    requires { IsSpanIn content.now.file.length content.now.range }
+    ensures { IfOk result (λ t. string_bytes t ≡ content_headers content.now len) }
 {
-    let first = first_lines(alloc, content, len)?;
-    let range = range_line(alloc, content)?;
+    let kind = kind_shown(&content.file);
+    let range = range_line(alloc, content.file.length, content.range)?;
     let file = file_lines(alloc, &content.file)?;
-    let head = format!(in alloc;
-        "{first}{range}Accept-Ranges: bytes\r\n{file}Connection: close\r\n\r\n"
-    )?;
-    Ok(Text::of(head))
+    Ok(format!(in alloc;
+        "Content-Type: {kind}\r\nContent-Length: {len}\r\n{range}Accept-Ranges: bytes\r\n{file}"
+    )?)
 }

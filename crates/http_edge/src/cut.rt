@@ -1,8 +1,9 @@
 //! Where the head of a request ends.
 
 ghost use Rattle.std.specs.Prelude.{◌≡◌, ◌≢◌, ◌↔◌, ◌+◌, ◌<◌, ◌≤◌, ℕ, List, take, IsTrue, length, slice_index};
+ghost use Rattle.http_edge.specs.declared.cut.Cut.{Cut as TheCut};
 ghost use Rattle.http_edge.specs.declared.cut.Cut.TheVariants.{Head, NotYet};
-ghost use Rattle.http_edge.specs.Cut.{IsCut, EndsLine, IsOther, HasOther};
+ghost use Rattle.http_edge.specs.Cut.{IsCut, IsEnd, NoEnd, EndsLine, IsOther, HasOther};
 
 use memchr::memchr;
 
@@ -20,7 +21,7 @@ pub enum Cut {
 /// The most bytes of a head.
 pub const MOST_HEAD: usize = 16_384;
 
-// Whether an empty line ends behind the byte at this place.
+// Whether an empty line ends after the byte at this place.
 fn ends_line(bytes: &[u8], at: usize) -> bool
     requires { at < length bytes.now }
     ensures { IsTrue result ↔ EndsLine bytes.now at }
@@ -43,19 +44,36 @@ fn is_other(byte: u8) -> bool
     (byte != b'\r') & (byte != b'\n')
 }
 
-// Behind the first byte that is neither CR nor LF, or the limit where none stands before it.
-fn begin_of(bytes: &[u8], limit: usize) -> usize
-    requires { limit ≤ length bytes.now }
-    ensures within { result ≤ limit }
-    ensures begun { result < limit → HasOther bytes.now result }
-    ensures before { (i : ℕ) → i + 1 < result → IsOther (slice_index bytes.now i) → ⊥ }
+// Whether a byte that is neither CR nor LF stands before the place. The way back ends at an empty line: such
+// a byte before that one would make it an end.
+fn has_begun(bytes: &[u8], at: usize) -> bool
+    requires within { at < length bytes.now }
+    requires none { NoEnd bytes.now at }
+    ensures { IsTrue result ↔ HasOther bytes.now at }
 {
-    'front: for at in 0..limit {
-        if is_other(bytes[at]) {
-            return at + 1;
+    let mut from = at;
+    'back: while from > 0 {
+        from -= 1;
+        if is_other(bytes[from]) {
+            return true;
+        }
+        if ends_line(bytes, from) {
+            return false;
         }
     }
-    limit
+    false
+}
+
+// Whether the head ends after the byte at this place.
+fn ends_head(bytes: &[u8], at: usize) -> bool
+    requires within { at < length bytes.now }
+    requires none { NoEnd bytes.now at }
+    ensures { IsTrue result ↔ IsEnd bytes.now (at + 1) }
+{
+    if !ends_line(bytes, at) {
+        return false;
+    }
+    has_begun(bytes, at)
 }
 
 // The first line feed from a place on, or the limit where none stands before it.
@@ -71,15 +89,17 @@ fn line_from(bytes: &[u8], at: usize, limit: usize) -> usize
     }
 }
 
-/// Cuts the head off the bytes of a connection (RFC 9112, section 2.2).
-pub fn cut_head(bytes: &[u8]) -> Cut
+/// Cuts the head off the bytes that came on a connection (RFC 9112, section 2.2). A former call found no
+/// end in the first `seen` of them, so that each byte is looked at a few times in all, however the bytes come.
+pub fn cut_head(bytes: &[u8], seen: usize) -> Cut
+    requires within { seen ≤ length bytes.now }
+    requires none { 0 < seen → IsCut (take seen bytes.now) NotYet }
     ensures { IsCut bytes.now result }
 {
     let limit = bytes.len().min(MOST_HEAD);
-    let begin = begin_of(bytes, limit);
-    let mut at = line_from(bytes, begin, limit);
+    let mut at = line_from(bytes, seen, limit);
     'lines: while at < limit {
-        if ends_line(bytes, at) {
+        if ends_head(bytes, at) {
             return Cut::Head(at + 1);
         }
         at = line_from(bytes, at + 1, limit);
@@ -94,7 +114,10 @@ pub fn cut_head(bytes: &[u8]) -> Cut
 /// Pieces can be judged as they come: where the whole has a head of n bytes, each front of at least n
 /// bytes has it too, and each shorter one none yet; where the whole has none yet, neither has a front.
 pub fn cut_as_it_comes()
-    ensures longer { (bytes : List ℕ) (n k : ℕ) → IsCut bytes (Head n) → n ≤ k → IsCut (take k bytes) (Head n) }
-    ensures shorter { (bytes : List ℕ) (n k : ℕ) → IsCut bytes (Head n) → k < n → IsCut (take k bytes) NotYet }
+    ensures longer { (bytes : List ℕ) (n k : ℕ) → IsCut bytes (Head n) → n ≤ k
+        → IsCut (take k bytes) (Head n) }
+    ensures shorter { (bytes : List ℕ) (n k : ℕ) → IsCut bytes (Head n) → k < n
+        → IsCut (take k bytes) NotYet }
     ensures none { (bytes : List ℕ) (k : ℕ) → IsCut bytes NotYet → IsCut (take k bytes) NotYet }
+    ensures one { (bytes : List ℕ) (a b : TheCut) → IsCut bytes a → IsCut bytes b → a ≡ b }
 {}

@@ -1,30 +1,43 @@
 //! The head of a request.
 
-ghost use Rattle.std.specs.Prelude.{◌≡◌, ◌≤◌, ◌==◌, ℕ, length, take, All, IsSome, IfSome, IfOk, IsUtf8, MatchOption};
+ghost use Rattle.std.specs.Prelude.{◌≡◌, ◌≤◌, ◌==◌, length, take, All, IsSome, IfSome, IfOk, IsUtf8};
 ghost use Rattle.std.specs.List.{before_first, after_first};
 ghost use Rattle.httparse.specs.Grammar.{RequestHead};
 ghost use Rattle.httparse.specs.Spans.{IsRequestAt, IsRequestWithin, span_bytes};
 ghost use Rattle.b2_base.specs.Failure.{IfFault};
-ghost use Rattle.b2_model.specs.Checks.{plain};
-ghost use Rattle.http_edge.specs.Request.{IsHead, HasHead, IsRequest, IsHeadFault, HasLength, HasBadLength};
-ghost use Rattle.http_edge.specs.Headers.{IsClean, IsPlain};
+ghost use Rattle.http_edge.specs.Cut.{most_head};
+ghost use Rattle.http_edge.specs.Headers.{most_fields, IsHead, HasHead};
+ghost use Rattle.http_edge.specs.Request.{IsRequest, IsHeadFault};
+ghost use Rattle.http_edge.specs.Steps.{IsClean, IsFaultOf};
 
 use crate::headers::header_map;
 use crate::length::body_length;
-use crate::route::named_for;
-use b2_base::{Memory, Or, Text};
-use b2_model::{Fault, Request};
-use http_header::{HeaderMap, HeaderValue};
+use crate::stay::asks_stay;
+use b2_base::{Or, Text};
+use b2_types::Fault;
+use call_paths::{Route, route_of};
 use httparse::Status;
 use httparse::spans::{EMPTY_HEADER_SPAN, HeaderSpan, RequestSpans, parse_request};
 use rule_table::FaultKind;
 use std::alloc::Global;
+use wire_forms::Request;
 
-// Where the parts of the head are, if the bytes are one, all of them, with at most 64 fields.
+/// The most fields of a head.
+const MOST_FIELDS: usize = 64;
+
+/// A request, and the call that it is for.
+#[derive(Drop)]
+pub struct Head {
+    pub request: Request,
+    pub route: Route,
+}
+
+// Where the parts of the head are, if the bytes are one, all of them.
 fn whole_request(bytes: &[u8], room: &mut [HeaderSpan]) -> Option<RequestSpans>
-    requires { length room.old ≡ 64 }
+    requires { length room.old ≡ most_fields }
     ensures found { HasHead bytes.now → IsSome result }
-    ensures head { IfSome result (λ spans. (h : RequestHead) × IsHead bytes.now h × IsRequestAt bytes.now room.new spans h) }
+    ensures head { IfSome result (λ spans. (h : RequestHead) × IsHead bytes.now h
+        × IsRequestAt bytes.now room.new spans h) }
     ensures within { IfSome result (IsRequestWithin bytes.now room.new) }
     ensures len { IfSome result (λ spans. spans.len ≡ length bytes.now) }
     ensures clean { IfSome result (λ spans. All (IsClean bytes.now) (take spans.headers room.new)) }
@@ -48,9 +61,10 @@ fn text_in(bytes: &[u8]) -> &str
     }
 }
 
-// The target before and behind its first question mark.
+// The target before and after its first question mark.
 fn path_and_query(target: &str) -> (&str, &str)
-    ensures { (result.0.now ≡ before_first (λ b. b == 63) target.now) × (result.1.now ≡ after_first (λ b. b == 63) target.now) }
+    ensures { (result.0.now ≡ before_first (λ b. b == 63) target.now)
+        × (result.1.now ≡ after_first (λ b. b == 63) target.now) }
 {
     match target.split_once('?') {
         Some((path, query)) => (path, query),
@@ -58,37 +72,35 @@ fn path_and_query(target: &str) -> (&str, &str)
     }
 }
 
-// The bytes of the body of a request with this method and path.
-fn length_of(method: &str, path: &str, headers: &HeaderMap<HeaderValue>) -> Option<u64>
-    ensures { MatchOption result (HasBadLength method.now path.now headers.now) (HasLength method.now path.now headers.now) }
+/// The request whose head these bytes are, all of them, and its call. A head that is none is told first,
+/// then a call that is none, and at last a length that is amiss.
+pub fn read_head(alloc: Global, bytes: &[u8]) -> Result<Head, Or<Fault>>
+    requires { length bytes.now ≤ most_head }
+    ensures request { IfOk result (λ head. IsRequest bytes.now head.request head.route) }
+    ensures fault { IfFault result (IsFaultOf (IsHeadFault bytes.now)) }
 {
-    match named_for(method.as_bytes(), path.as_bytes()) {
-        Ok(route) => body_length(route.name, headers),
-        Err(_) => Some(0),
-    }
-}
-
-/// The request whose head these bytes are, all of them, with at most 64 fields.
-pub fn read_head(alloc: Global, bytes: &[u8]) -> Result<Request, Or<Fault>>
-    requires { length bytes.now ≤ 16384 }
-    ensures request { IfOk result (IsRequest bytes.now) }
-    ensures fault { IfFault result (IsPlain (IsHeadFault bytes.now)) }
-{
-    let mut room = [EMPTY_HEADER_SPAN; 64];
+    let mut room = [EMPTY_HEADER_SPAN; MOST_FIELDS];
     let Some(spans) = whole_request(bytes, &mut room) else {
-        return Err(Or::Fault(Fault::plain(alloc, FaultKind::BadHead)));
+        return Err(Or::Fault(Fault::plain(FaultKind::BadHead)));
     };
     let method = text_in(spans.method.of(bytes));
     let (path, query) = path_and_query(text_in(spans.path.of(bytes)));
-    let headers = header_map(alloc, bytes, &room[..spans.headers])?;
-    let Some(length) = length_of(method, path, &headers) else {
-        return Err(Or::Fault(Fault::plain(alloc, FaultKind::BadLength)));
+    let route = match route_of(method.as_bytes(), path.as_bytes()) {
+        Ok(route) => route,
+        Err(kind) => return Err(Or::Fault(Fault::plain(kind))),
     };
-    Ok(Request {
+    let headers = header_map(alloc, bytes, &room[..spans.headers])?;
+    let Some(length) = body_length(route.name, &headers) else {
+        return Err(Or::Fault(Fault::plain(FaultKind::BadLength)));
+    };
+    let stay = asks_stay(&headers);
+    let request = Request {
         method: Text::copy(alloc, method)?,
         path: Text::copy(alloc, path)?,
         query: Text::copy(alloc, query)?,
         headers,
         length,
-    })
+        stay,
+    };
+    Ok(Head { request, route })
 }

@@ -1,14 +1,14 @@
 //! The headers of a request.
 
-ghost use Rattle.std.specs.Prelude.{◌≡◌, [], ◌+◌, ◌≤◌, ◌<◌, true, false, length, map, codes, bytes_eq, All, IfOk, OnOk, MatchOption};
+ghost use Rattle.std.specs.Prelude.{◌≡◌, [], ◌+◌, ◌≤◌, ◌<◌, true, false, length, take, map, codes, bytes_eq, All, IfOk, OnOk, MatchOption};
 ghost use Rattle.std.specs.List.{list_any};
 ghost use Rattle.httparse.specs.Spans.{IsHeaderWithin, IsWithin, header_bytes, span_bytes};
 ghost use Rattle.http_header.specs.FieldValue.{plain_value};
 ghost use Rattle.http_header.specs.HeaderMap.{append, value_count};
 ghost use Rattle.http_header.specs.Token.{lowercase, IsToken, AllPass, is_value_byte};
-ghost use Rattle.b2_model.specs.Denial.{begins_with};
-ghost use Rattle.http_edge.specs.Request.{read_names, is_read, headers_by};
-ghost use Rattle.http_edge.specs.Headers.{IsClean};
+ghost use Rattle.http_edge.specs.Cut.{most_head};
+ghost use Rattle.http_edge.specs.Headers.{most_fields, read_names, is_read, headers_by};
+ghost use Rattle.http_edge.specs.Steps.{IsClean};
 
 use b2_base::Memory;
 use bytes::Bytes;
@@ -41,13 +41,13 @@ fn header_value(bytes: &Bytes, place: Span) -> Result<HeaderValue, Memory>
     Ok(HeaderValue::from_known_valid(value))
 }
 
-// Puts the value behind those of its name.
+// Puts the value after those of its name.
 fn add_header(
     map: &mut HeaderMap<HeaderValue>,
     name: HeaderName,
     value: HeaderValue,
 ) -> Result<(), Memory>
-    requires few { (length map.old < 64) × (value_count map.old < 64) }
+    requires few { (length map.old < most_fields) × (value_count map.old < most_fields) }
     ensures { OnOk result (map.new ≡ append map.old name value) }
 {
     match map.append(name, value) {
@@ -67,7 +67,7 @@ fn is_named(name: &[u8], lower: &[u8]) -> bool
 
 // B2's own headers, whose names all begin so.
 fn is_own(name: &[u8]) -> bool
-    ensures { result ≡ begins_with (codes "x-bz-") (lowercase name.now) }
+    ensures { result ≡ bytes_eq (take 5 (lowercase name.now)) (codes "x-bz-") }
 {
     match name.get(..5) {
         Some(front) => is_named(front, b"x-bz-"),
@@ -78,7 +78,8 @@ fn is_own(name: &[u8]) -> bool
 // The name, where it is one of those that calls read beside B2's own. The port's constants need no memory.
 fn known_name(name: &[u8]) -> Option<HeaderName>
     ensures { MatchOption result (list_any (bytes_eq (lowercase name.now)) read_names ≡ false)
-        (λ n. (list_any (bytes_eq (lowercase name.now)) read_names ≡ true) × (n ≡ lowercase name.now)) }
+        (λ n. (list_any (bytes_eq (lowercase name.now)) read_names ≡ true)
+        × (n ≡ lowercase name.now)) }
 {
     if is_named(name, b"authorization") {
         Some(AUTHORIZATION)
@@ -101,7 +102,9 @@ fn known_name(name: &[u8]) -> Option<HeaderName>
 fn read_name(alloc: Global, name: &[u8]) -> Result<Option<HeaderName>, Memory>
     requires token { IsToken name.now }
     requires short { length name.now ≤ 65535 }
-    ensures { IfOk result (λ o. MatchOption o (is_read (lowercase name.now) ≡ false) (λ n. (is_read (lowercase name.now) ≡ true) × (n ≡ lowercase name.now))) }
+    ensures { IfOk result
+        (λ o. MatchOption o (is_read (lowercase name.now) ≡ false)
+        (λ n. (is_read (lowercase name.now) ≡ true) × (n ≡ lowercase name.now))) }
 {
     if is_own(name) {
         let name = header_name(alloc, name)?;
@@ -117,11 +120,12 @@ pub(crate) fn header_map(
     bytes: &[u8],
     spans: &[HeaderSpan],
 ) -> Result<HeaderMap<HeaderValue>, Memory>
-    requires short { length bytes.now ≤ 16384 }
-    requires few { length spans.now ≤ 64 }
+    requires short { length bytes.now ≤ most_head }
+    requires few { length spans.now ≤ most_fields }
     requires within { All (IsHeaderWithin (length bytes.now)) spans.now }
     requires clean { All (IsClean bytes.now) spans.now }
-    ensures { IfOk result (λ headers. headers ≡ headers_by (map (header_bytes bytes.now) spans.now)) }
+    ensures { IfOk result
+        (λ headers. headers ≡ headers_by (map (header_bytes bytes.now) spans.now)) }
 {
     let shared = Bytes::copy_from_slice(alloc, bytes)?;
     let mut headers = HeaderMap::new(alloc);

@@ -1,53 +1,27 @@
 //! How long the body of a request is.
 
-ghost use Rattle.std.specs.Prelude.{◌≡◌, ◌↔◌, true, false, slice_index, EachIndex, IsTrue, MatchOption};
-ghost use Rattle.std.specs.Int.{IsInRange};
-ghost use Rattle.std.specs.Str.Parse.{digits_value};
-ghost use Rattle.http_edge.specs.Request.{lengths, is_length, are_lengths, told_length, is_upload, has_digest_last, least_body, most_body, is_bad_length};
+ghost use Rattle.std.specs.Prelude.{◌≡◌, true, false, MatchOption};
+ghost use Rattle.http_edge.specs.Length.{lengths, are_lengths, told_length, is_upload, has_digest_last, least_body, most_body, is_bad_length};
 
+use b2_base::read_digits;
 use http_header::{CONTENT_LENGTH, HeaderMap, HeaderValue, TRANSFER_ENCODING};
 use rule_table::CallName;
 
-// The most bytes of a JSON body and of a content, and the bytes of a digest behind a content.
+// The most digits of a length.
+const MOST_DIGITS: usize = 19;
+
+// The most bytes of a JSON body and of a content, and the digits of a digest after a content.
 const MOST_JSON: u64 = 1_048_576;
 
 const MOST_CONTENT: u64 = 5_000_000_000;
 
-const DIGEST: u64 = 40;
-
-fn is_digits(text: &[u8]) -> bool
-    ensures { IsTrue result ↔ EachIndex text.now (λ i. IsInRange 48 57 (slice_index text.now i)) }
-{
-    text.iter().all(|byte| byte.is_ascii_digit())
-}
-
-fn is_length(text: &[u8]) -> bool
-    ensures { result ≡ is_length text.now }
-{
-    let is_short = (1 <= text.len()) & (text.len() <= 19);
-    is_short & is_digits(text)
-}
-
-// The number that a length of a body writes.
-fn number_in(text: &[u8]) -> Option<u64>
-    ensures { MatchOption result (is_length text.now ≡ false) (λ n. (is_length text.now ≡ true) × (n ≡ digits_value 10 text.now)) }
-{
-    if !is_length(text) {
-        return None;
-    }
-    let Ok(text) = str::from_utf8(text) else {
-        return None;
-    };
-    let Ok(number) = text.parse::<u64>() else {
-        return None;
-    };
-    Some(number)
-}
+const DIGEST_LEN: u64 = 40;
 
 // The length that the headers give, or none where they give more than one, or something else.
 fn told_length(headers: &HeaderMap<HeaderValue>) -> Option<u64>
     ensures { MatchOption result (are_lengths (lengths headers.now) ≡ false)
-        (λ n. (are_lengths (lengths headers.now) ≡ true) × (n ≡ told_length (lengths headers.now))) }
+        (λ n. (are_lengths (lengths headers.now) ≡ true)
+        × (n ≡ told_length (lengths headers.now))) }
 {
     let all = headers.get_all(&CONTENT_LENGTH);
     let mut values = all.iter();
@@ -57,7 +31,7 @@ fn told_length(headers: &HeaderMap<HeaderValue>) -> Option<u64>
     if values.next().is_some() {
         return None;
     }
-    number_in(first.as_bytes())
+    read_digits(first.as_bytes(), MOST_DIGITS)
 }
 
 fn has_digest_last(headers: &HeaderMap<HeaderValue>) -> bool
@@ -82,7 +56,7 @@ fn least_body(name: CallName, headers: &HeaderMap<HeaderValue>) -> u64
     ensures { result ≡ least_body name headers.now }
 {
     if is_upload(name) && has_digest_last(headers) {
-        DIGEST
+        DIGEST_LEN
     } else {
         0
     }
@@ -95,7 +69,7 @@ fn most_body(name: CallName, headers: &HeaderMap<HeaderValue>) -> u64
         return MOST_JSON;
     }
     if has_digest_last(headers) {
-        MOST_CONTENT + DIGEST
+        MOST_CONTENT + DIGEST_LEN
     } else {
         MOST_CONTENT
     }

@@ -1,22 +1,21 @@
-//! The edge at which bytes become a request, and an answer becomes bytes.
+//! The edge at which bytes become a request, and an answer becomes the head of a reply.
 #![tactic(auto)]
 
 mod content;
 mod cut;
 mod head;
 mod headers;
+mod laws;
 mod length;
 mod reply;
-mod route;
+mod stay;
 
 pub use cut::{Cut, MOST_HEAD, cut_as_it_comes, cut_head};
-pub use head::read_head;
-pub use reply::{reply_head, sendable_answers};
-pub use route::{Route, one_path, route_of};
+pub use head::{Head, read_head};
+pub use laws::{one_received, one_request, received_as_it_comes};
+pub use reply::reply_head;
 
 #[cfg(test)]
 mod head_tests;
 #[cfg(test)]
 mod reply_tests;
-#[cfg(test)]
-mod tests;

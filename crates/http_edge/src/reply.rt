@@ -1,59 +1,60 @@
 //! The head of a reply.
 
-ghost use Rattle.std.specs.Prelude.{◌≡◌, ℕ, List, IfOk};
-ghost use Rattle.b2_model.specs.declared.call.Call.{Call as TheCall};
-ghost use Rattle.b2_model.specs.State.{State};
-ghost use Rattle.b2_model.specs.Ask.{ask};
-ghost use Rattle.b2_model.specs.FaultTable.{answer_status};
-ghost use Rattle.http_edge.specs.Reply.{json_head, reply_head, reason_of, AsksInOrder, IsSendable};
+ghost use Rattle.std.specs.Prelude.{◌≡◌, codes, if◌then◌else◌, string_bytes, IfOk};
+ghost use Rattle.b2_types.specs.Answer.{status_line, IsSendable};
+ghost use Rattle.http_edge.specs.Reply.{status_text, json_headers, body_headers, reply_head};
 
-use crate::content::content_head;
+use crate::content::content_lines;
 use b2_base::{Memory, Text};
-use b2_model::AnswerOf;
+use b2_types::AnswerOf;
 use std::alloc::Global;
 
-/// The reason of a status (RFC 9110, section 15).
-pub(crate) fn reason_of(status: u16) -> &'static str
-    ensures { result.now ≡ reason_of status }
+fn status_text<C>(alloc: Global, answer: &AnswerOf<C>) -> Result<String, Memory>
+    ensures { IfOk result (λ t. string_bytes t ≡ status_text (status_line answer.now)) }
 {
-    match status {
-        200 => "OK",
-        206 => "Partial Content",
-        400 => "Bad Request",
-        401 => "Unauthorized",
-        403 => "Forbidden",
-        404 => "Not Found",
-        405 => "Method Not Allowed",
-        409 => "Conflict",
-        416 => "Range Not Satisfiable",
-        _ => "Service Unavailable",
-    }
+    let status = answer.status();
+    let reason = answer.reason();
+    Ok(format!(in alloc; "HTTP/1.1 {status} {reason}\r\n")?)
 }
 
-fn json_head(alloc: Global, status: u16, len: u64) -> Result<Text, Memory>
-    ensures { IfOk result (λ t. t ≡ json_head status len) }
+fn json_lines(alloc: Global, len: u64) -> Result<String, Memory>
+    ensures { IfOk result (λ t. string_bytes t ≡ json_headers len) }
 {
-    let reason = reason_of(status);
-    let head = format!(in alloc;
-        "HTTP/1.1 {status} {reason}\r\nContent-Type: application/json;charset=utf-8\r\nContent-Length: {len}\r\nConnection: close\r\n\r\n"
-    )?;
-    Ok(Text::of(head))
+    Ok(format!(in alloc;
+        "Content-Type: application/json;charset=utf-8\r\nContent-Length: {len}\r\n"
+    )?)
 }
 
-/// The head of the reply to an answer, whose body has `len` bytes.
-pub fn reply_head<C>(alloc: Global, answer: &AnswerOf<C>, len: u64) -> Result<Text, Memory>
+fn body_lines<C>(alloc: Global, answer: &AnswerOf<C>, len: u64) -> Result<String, Memory>
     requires { IsSendable answer.now }
-    ensures { IfOk result (λ t. t ≡ reply_head answer.now len) }
+    ensures { IfOk result (λ t. string_bytes t ≡ body_headers answer.now len) }
 {
     match answer {
-        AnswerOf::Content(content) => content_head(alloc, content, len),
-        _ => json_head(alloc, answer.status(), len),
+        AnswerOf::Content(content) => content_lines(alloc, content, len),
+        _ => json_lines(alloc, len),
     }
 }
 
-/// Each answer of the version machine to a call has a head: a range that has no byte of the content, or
-/// ends behind it, is refused or cut.
-#[tactic(auto, using(crate::proofs::Sendable::sendable))]
-pub fn sendable_answers<C>()
-    ensures { (size : C → ℕ) (M : State C) (t : ℕ) (words : List ℕ) (c : TheCall) → AsksInOrder c → IsSendable (ask size M t words c).answer }
-{}
+fn option_text(stay: bool) -> &'static str
+    ensures { result.now ≡ (if stay then codes "keep-alive" else codes "close") }
+{
+    if stay { "keep-alive" } else { "close" }
+}
+
+/// The head of the reply to an answer, whose body has `len` bytes. It says whether the connection stays open
+/// after the reply.
+pub fn reply_head<C>(
+    alloc: Global,
+    answer: &AnswerOf<C>,
+    len: u64,
+    stay: bool,
+) -> Result<Text, Memory>
+    requires { IsSendable answer.now }
+    ensures { IfOk result (λ t. t ≡ reply_head answer.now len stay) }
+{
+    let status = status_text(alloc, answer)?;
+    let body = body_lines(alloc, answer, len)?;
+    let option = option_text(stay);
+    let head = format!(in alloc; "{status}{body}Connection: {option}\r\n\r\n")?;
+    Ok(Text::of(head))
+}

@@ -8,9 +8,9 @@ use Rattle.api_json.proofs.credentials.basic.Goals as goal
 pub returns-clause-pair : goal.returns-clause-pair
 returns-clause-pair c =
     let front = strip_prefix_is Decides-eqb c.args.value.now (codes "Basic ") (Some c.in-Some.encoded) c.in-Some.ensures.cases in
-    let at : List ℕ → Type 0 = λ xs. IsPair xs c.in-Some-split_pair.user.now c.in-Some-split_pair.secret.now in
-    basic_of c.args.value.now c.in-Some.encoded.now c.in-Ok.bytes.items c.in-Some-split_pair.user.now c.in-Some-split_pair.secret.now c.in_ok-user.user c.in_ok-secret.secret
-    front (c.in-Ok.ensures.exact (search rules)) c.in-Ok.ensures.bytes (subst at c.deref.ensures.value c.in-Some-split_pair.ensures) c.in_ok-user.ensures c.in_ok-secret.ensures
+    let at : List ℕ → Type 0 = λ xs. IsPair xs c.in-Some-split_pair.id.now c.in-Some-split_pair.secret.now in
+    basic_of c.args.value.now c.in-Some.encoded.now c.in-Ok.bytes.items c.in-Some-split_pair.id.now c.in-Some-split_pair.secret.now c.in_ok-id.id c.in_ok-secret.secret
+    front (c.in-Ok.ensures.exact (search rules)) c.in-Ok.ensures.bytes (subst at c.deref.ensures.value c.in-Some-split_pair.ensures) c.in_ok-id.ensures c.in_ok-secret.ensures
 
 pub returns-clause-only : goal.returns-clause-only
-returns-clause-only c = λ user secret basic. one_pair c.args.value.now user secret c.in_ok-user.user c.in_ok-secret.secret basic (returns-clause-pair c)
+returns-clause-only c = λ id secret basic. one_pair c.args.value.now id secret c.in_ok-id.id c.in_ok-secret.secret basic (returns-clause-pair c)

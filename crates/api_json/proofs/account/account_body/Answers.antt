@@ -1,7 +1,0 @@
-use Rattle.std.proofs.Common.{◌∙◌, ap}
-use Rattle.serde_json.specs.Written.{compact_text, has_float}
-use Rattle.api_json.proofs.Plain.{account_plain}
-use Rattle.api_json.proofs.account.account_body.Goals as goal
-
-pub returns : goal.returns
-returns c = c.in_ok-text.ensures.text (ap has_float c.in_ok-value.ensures ∙ account_plain c.args.account.now) ∙ ap compact_text c.in_ok-value.ensures

@@ -1,0 +1,7 @@
+pub mod Information
+pub mod Buckets
+pub mod Files
+pub mod Listings
+pub mod Keys
+pub mod Made
+pub mod Call

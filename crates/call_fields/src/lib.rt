@@ -1,0 +1,15 @@
+//! What the server reads of a call: its fields, in the order of a table for each call.
+#![tactic(auto)]
+
+mod buckets;
+mod call;
+mod files;
+mod information;
+mod keys;
+mod listings;
+mod made;
+
+pub use call::{one_call, read_call};
+
+#[cfg(test)]
+mod tests;

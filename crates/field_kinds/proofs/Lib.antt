@@ -1,0 +1,4 @@
+pub mod Spelled
+pub mod Names
+pub mod NoItems
+pub mod Infos

@@ -1,0 +1,6 @@
+pub mod Reader
+pub mod Spelled
+pub mod Kinds
+pub mod Info
+pub mod Rules
+pub mod Offered

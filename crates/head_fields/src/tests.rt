@@ -1,0 +1,64 @@
+//! Tokens in headers and queries.
+
+use crate::{download_token, first_param, token_of};
+use b2_base::Text;
+use http_header::{HeaderMap, HeaderName, HeaderValue};
+use std::alloc::Global;
+use std::test::Fail;
+use wire_forms::Request;
+
+fn request(alloc: Global, query: &str, tokens: &[&[u8]]) -> Result<Request, Fail> {
+    let mut headers = HeaderMap::new(alloc);
+    for token in tokens {
+        let name = HeaderName::from_bytes(alloc, b"authorization")
+            .ok()
+            .ok_or("a name")?;
+        let value = HeaderValue::from_bytes(alloc, token).ok().ok_or("a value")?;
+        headers.append(name, value).ok().ok_or("room")?;
+    }
+    Ok(Request {
+        method: Text::copy(alloc, "GET")?,
+        path: Text::copy(alloc, "/file/bucket/name")?,
+        query: Text::copy(alloc, query)?,
+        headers,
+        length: 0,
+        stay: false,
+    })
+}
+
+#[test]
+fn tokens(rt: HostRuntime) -> Result<(), Fail> {
+    let alloc = rt.alloc();
+    let rows: [(&[&[u8]], &str, &str); 4] = [
+        (&[b"3_a"], "", "3_a"),
+        // The first counts, and the query is not looked at.
+        (&[b"3_a", b"3_b"], "Authorization=3_c", "3_a"),
+        (&[b"\xff"], "Authorization=3_c", ""),
+        (&[], "a=b&Authorization=3%5Fc&Authorization=3_d", "3_c"),
+    ];
+    for (headers, query, token) in rows {
+        let request = request(alloc, query, headers)?;
+        let found = download_token(alloc, &request)?.ok_or("a token")?;
+        assert_eq!(rt; found.get(), token);
+    }
+    let none = request(alloc, "authorization=3_c", &[])?;
+    assert!(rt; download_token(alloc, &none)?.is_none());
+    assert!(rt; token_of(alloc, &none)?.is_none());
+    Ok(())
+}
+
+#[test]
+fn parameters(rt: HostRuntime) -> Result<(), Fail> {
+    let alloc = rt.alloc();
+    let rows: [(&[u8], &str); 3] = [
+        (b"fileId=4_z&fileId=5", "4_z"),
+        (b"a&&file%49d=a+b%2B", "a b+"),
+        (b"fileId", ""),
+    ];
+    for (query, value) in rows {
+        let found = first_param(alloc, query, "fileId")?.ok_or("a value")?;
+        assert_eq!(rt; found.get(), value);
+    }
+    assert!(rt; first_param(alloc, b"fileid=1", "fileId")?.is_none());
+    Ok(())
+}
