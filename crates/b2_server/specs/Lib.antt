@@ -1,3 +1,5 @@
 pub mod Store
 pub mod Answer
+pub mod Receive
+pub mod Dispatch
 pub mod Run

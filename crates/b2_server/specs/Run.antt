@@ -1,13 +1,12 @@
 -- What a run of the program does, from the script's bytes to the output's bytes.
-use Rattle.std.specs.Prelude.{◌≡◌, ℕ, List, [], ◌∷◌, ◌++◌, Option, Some, None, option_map, length, codes, decimal}
+use Rattle.std.specs.Prelude.{◌≡◌, ℕ, List, [], ◌∷◌, ◌++◌, Option, Some, None, length, codes, decimal}
 use Rattle.std.specs.Io.KnownBytes.{Appends}
 use Rattle.outside_traits.specs.Causes.{Rose}
 use Rattle.outside_traits.specs.Bytes.{AppendsFront}
 use Rattle.replay_script.specs.Line.{Line}
 use Rattle.replay_script.specs.Script.{ReadsScript, HasFirstWrong, reading_of, head_of, words_of, conn_of}
-use Rattle.b2_model.specs.declared.shown.AnswerOf.{AnswerOf}
-use Rattle.http_edge.specs.Reply.{reply_of}
-use Rattle.b2_server.specs.Answer.{IsAnswered}
+use Rattle.b2_types.specs.declared.answer.AnswerOf.{AnswerOf}
+use Rattle.b2_server.specs.Answer.{IsAnswered, sent_of}
 use Rattle.b2_server.specs.Store.{fixed_store}
 use Rattle.b2_server.specs.declared.run.Status.{Status}
 use Rattle.b2_server.specs.declared.run.Status.TheVariants as status
@@ -25,7 +24,7 @@ shown conn (Some reply) = codes "sent " ++ decimal conn ++ codes " " ++ decimal 
 -- the output for a script of these lines shows what is answered to the bytes of its connection
 abbrev pub IsOutput : List Line → List ℕ → Type 0
 IsOutput lines output =
-    (answer : Option (AnswerOf (List ℕ))) × IsAnswered fixed_store (reading_of lines) (words_of lines) (head_of lines) answer × (output ≡ shown (conn_of lines) (option_map reply_of answer))
+    (answer : Option (AnswerOf (List ℕ))) × IsAnswered fixed_store (reading_of lines) (words_of lines) (head_of lines) answer × (output ≡ shown (conn_of lines) (sent_of answer))
 
 -- the bytes are a script, and this is the output for it
 abbrev pub HasOutput : List ℕ → List ℕ → Type 0

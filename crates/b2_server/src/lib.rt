@@ -2,12 +2,12 @@
 #![tactic(auto)]
 
 mod authorize;
+mod dispatch;
 mod laws;
 mod receive;
 mod reply;
 mod run;
 mod store;
-mod token;
 
 pub use laws::one_output;
 pub use run::{Status, run_b2d};

@@ -1,21 +1,22 @@
 //! Replies, and how they are shown.
 
-ghost use Rattle.std.specs.Prelude.{◌≡◌, ◌++◌, ℕ, List, Some, IfOk, option_map};
-ghost use Rattle.b2_model.specs.declared.shown.AnswerOf.{AnswerOf as TheAnswer};
-ghost use Rattle.b2_model.specs.declared.shown.AnswerOf.TheVariants.{Account, Refused};
-ghost use Rattle.http_edge.specs.Reply.{IsSendable, reply_head, reply_of};
-ghost use Rattle.b2_server.specs.Answer.{Authorizes, Replies};
+ghost use Rattle.std.specs.Prelude.{◌≡◌, ◌++◌, Some, true, false, IfOk, option_map};
+ghost use Rattle.b2_types.specs.declared.answer.AnswerOf.TheVariants as answer;
+ghost use Rattle.call_paths.specs.Path.{serves};
+ghost use Rattle.http_edge.specs.Reply.{reply_of};
+ghost use Rattle.b2_server.specs.Answer.{Replies};
+ghost use Rattle.b2_server.specs.Dispatch.{IsText, RepliesTo};
 ghost use Rattle.b2_server.specs.Run.{shown};
 
-use crate::authorize::authorize;
+use crate::dispatch::dispatch;
 use crate::receive::receive;
-use api_json::{account_body, authorize_call, refusal_body};
-use b2_base::{Memory, Or, Settings, Text};
-use b2_model::{Answer, AnswerOf, Authorize, Fault, ShownAccount};
-use http_edge::reply_head;
+use api_json::json_body;
+use b2_base::{Blob, Memory, Or, Settings};
+use b2_types::{AnswerOf, Fault};
+use http_edge::{Head, reply_head};
 use std::alloc::{AllocError, Global};
 
-// The three texts, one behind the other.
+// The three texts, one after the other.
 fn joined(alloc: Global, first: &[u8], second: &[u8], third: &[u8]) -> Result<Vec<u8>, AllocError>
     ensures { IfOk result (λ v. v.items ≡ first.now ++ second.now ++ third.now) }
 {
@@ -25,71 +26,57 @@ fn joined(alloc: Global, first: &[u8], second: &[u8], third: &[u8]) -> Result<Ve
     Ok(all)
 }
 
-// The head of the reply to the answer. It is let go by a call of its own, since each way out of a function
-// that holds it lets go of each kind of answer.
-fn head_of(alloc: Global, answer: Answer, len: u64) -> Result<Text, Memory>
-    requires { IsSendable answer }
-    ensures { IfOk result (λ t. t ≡ reply_head answer len) }
+/// The bytes that answer, with which the connection is closed.
+pub(crate) fn reply(alloc: Global, answer: &AnswerOf<Blob>) -> Result<Vec<u8>, Memory>
+    requires { IsText answer.now }
+    ensures { IfOk result (λ v. v.items ≡ reply_of answer.now false) }
 {
-    let head = reply_head(alloc, &answer, len);
-    drop(answer);
-    head
-}
-
-fn account_reply(alloc: Global, account: ShownAccount) -> Result<Vec<u8>, Memory>
-    ensures { IfOk result (λ v. v.items ≡ reply_of (Account account)) }
-{
-    let body = account_body(alloc, &account)?;
+    let Some(body) = json_body(alloc, answer)? else {
+        unreachable!();
+    };
     let body = body.get().as_bytes();
-    let head = head_of(alloc, AnswerOf::Account(account), body.len() as u64)?;
+    let head = reply_head(alloc, answer, body.len() as u64, false)?;
     Ok(joined(alloc, head.get().as_bytes(), body, b"")?)
 }
 
+// The reply to a request whose form is refused.
 fn refusal_reply(alloc: Global, fault: Fault) -> Result<Vec<u8>, Memory>
-    ensures { IfOk result (λ v. v.items ≡ reply_of (Refused fault)) }
+    ensures { IfOk result (λ v. v.items ≡ reply_of (answer.Refused fault) false) }
 {
-    let body = refusal_body(alloc, &fault)?;
-    let body = body.get().as_bytes();
-    let head = head_of(alloc, AnswerOf::Refused(fault), body.len() as u64)?;
-    Ok(joined(alloc, head.get().as_bytes(), body, b"")?)
+    reply(alloc, &AnswerOf::Refused(fault))
 }
 
-// The reply to an authorize call.
-fn authorize_reply(
+// The reply to a request that came whole.
+fn reply_to_head(
     alloc: Global,
     settings: &Settings,
     words: &[u64],
-    call: &Authorize,
+    head: &Head,
 ) -> Result<Vec<u8>, Memory>
-    ensures { IfOk result (λ v. (told : TheAnswer (List ℕ)) × Authorizes settings.now words.now call.now told × (v.items ≡ reply_of told)) }
+    requires served { serves head.now.route.version head.now.route.name ≡ true }
+    ensures { IfOk result
+        (λ v. RepliesTo settings.now words.now head.now.route head.now.request v.items) }
 {
-    match authorize(alloc, settings, words, call) {
-        Ok(account) => Ok(account_reply(alloc, account)?),
-        Err(Or::Memory) => Err(Memory),
-        Err(Or::Fault(fault)) => Ok(refusal_reply(alloc, fault)?),
-    }
+    let answer = dispatch(alloc, settings, words, head)?;
+    reply(alloc, &answer)
 }
 
 /// The bytes that answer those of a connection, where there is an answer.
-pub(crate) fn reply(
+pub(crate) fn reply_to(
     alloc: Global,
     settings: &Settings,
     words: &[u64],
     bytes: &[u8],
 ) -> Result<Option<Vec<u8>>, Memory>
-    ensures { IfOk result (λ o. Replies settings.now words.now bytes.now (option_map (λ v. v.items) o)) }
+    ensures { IfOk result
+        (λ o. Replies settings.now words.now bytes.now (option_map (λ v. v.items) o)) }
 {
-    let came = match receive(alloc, bytes) {
-        Ok(came) => came,
-        Err(Or::Memory) => return Err(Memory),
-        Err(Or::Fault(fault)) => return Ok(Some(refusal_reply(alloc, fault)?)),
-    };
-    let Some((request, _)) = came else {
-        return Ok(None);
-    };
-    let call = authorize_call(alloc, &request)?;
-    let reply = authorize_reply(alloc, settings, words, &call)?;
-    Ok(Some(reply))
+    match receive(alloc, bytes) {
+        Ok(Some(head)) => Ok(Some(reply_to_head(alloc, settings, words, &head)?)),
+        Ok(None) => Ok(None),
+        Err(Or::Memory) => Err(Memory),
+        Err(Or::Fault(fault)) => Ok(Some(refusal_reply(alloc, fault)?)),
+    }
 }
 
 /// What is shown of a connection on which the reply was sent whole, and which was then closed.

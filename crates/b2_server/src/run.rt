@@ -6,7 +6,7 @@ ghost use Rattle.replay_script.specs.Line.{Line};
 ghost use Rattle.replay_script.specs.Script.{ReadsScript, HasFirstWrong, Says};
 ghost use Rattle.b2_server.specs.Run.{IsReplay, IsOutput, IsNotUsage, IsNotBadLine, CallsWrong, Leaves, SourceCause, SinkCause, Quiet, IsOkOrMemory};
 
-use crate::reply::{output, reply};
+use crate::reply::{output, reply_to};
 use crate::store::fixed_settings;
 use b2_base::{Memory, Or, Text};
 use outside_traits::{Failed, Sink, Source, write_all};
@@ -30,11 +30,12 @@ pub enum Status {
 }
 
 // The output for a script.
-fn served(alloc: Global, script: &Script) -> Result<Vec<u8>, Memory>
-    ensures { IfOk result (λ v. (lines : List Line) → Says script.now lines → IsOutput lines v.items) }
+fn output_for(alloc: Global, script: &Script) -> Result<Vec<u8>, Memory>
+    ensures { IfOk result (λ v. (lines : List Line) → Says script.now lines
+        → IsOutput lines v.items) }
 {
     let settings = fixed_settings(alloc)?;
-    let Some(reply) = reply(alloc, &settings, &script.words, &script.head)? else {
+    let Some(reply) = reply_to(alloc, &settings, &script.words, &script.head)? else {
         return Ok(Vec::new(alloc));
     };
     let output = output(alloc, script.conn, &reply)?;
@@ -44,9 +45,12 @@ fn served(alloc: Global, script: &Script) -> Result<Vec<u8>, Memory>
 // Reads the script, serves it and writes the output.
 fn replay<S: Source, K: Sink>(alloc: Global, script: &mut S, out: &mut K) -> Status
     ensures known { IsNotUsage result }
-    ensures leaves { IfSome (S.left script.old) (λ bytes. Leaves bytes (K.contents out.old) (K.contents out.new) result) }
-    ensures whole { IfSome (S.left script.old) (λ bytes. (lines : List Line) → ReadsScript bytes lines → IsNotBadLine result) }
-    ensures wrong { IfSome (S.left script.old) (λ bytes. (number : ℕ) → HasFirstWrong bytes number → CallsWrong number result) }
+    ensures leaves { IfSome (S.left script.old)
+        (λ bytes. Leaves bytes (K.contents out.old) (K.contents out.new) result) }
+    ensures whole { IfSome (S.left script.old) (λ bytes. (lines : List Line)
+        → ReadsScript bytes lines → IsNotBadLine result) }
+    ensures wrong { IfSome (S.left script.old) (λ bytes. (number : ℕ) → HasFirstWrong bytes number
+        → CallsWrong number result) }
     ensures source { SourceCause (S.faults script.old) (S.faults script.new) result }
     ensures sink { SinkCause (K.faults out.old) (K.faults out.new) result }
     ensures quiet { Quiet out.old out.new result }
@@ -57,7 +61,7 @@ fn replay<S: Source, K: Sink>(alloc: Global, script: &mut S, out: &mut K) -> Sta
         Err(Or::Fault(ScriptFault::SourceFault)) => return Status::SourceFault,
         Err(Or::Fault(ScriptFault::BadLine(number))) => return Status::BadLine(number),
     };
-    let Ok(output) = served(alloc, &script) else {
+    let Ok(output) = output_for(alloc, &script) else {
         return Status::Memory;
     };
     match write_all(out, &output) {
@@ -88,10 +92,13 @@ pub fn run_b2d<S: Source, K: Sink>(
     ensures unread { result ≡ Status.Usage → script.new ≡ script.old }
 
     // From the script's bytes to the output's.
-    ensures leaves { IfSome (S.left script.old) (λ bytes. Leaves bytes (K.contents out.old) (K.contents out.new) result) }
+    ensures leaves { IfSome (S.left script.old)
+        (λ bytes. Leaves bytes (K.contents out.old) (K.contents out.new) result) }
 
     // Where a line is the first wrong one, no other is called so, and nothing is served.
-    ensures wrong { IsReplay words.now → IfSome (S.left script.old) (λ bytes. (number : ℕ) → HasFirstWrong bytes number → CallsWrong number result) }
+    ensures wrong { IsReplay words.now
+        → IfSome (S.left script.old) (λ bytes. (number : ℕ) → HasFirstWrong bytes number
+        → CallsWrong number result) }
 
     // A fault comes only from the object whose count rose.
     ensures source { SourceCause (S.faults script.old) (S.faults script.new) result }
@@ -99,8 +106,10 @@ pub fn run_b2d<S: Source, K: Sink>(
     ensures quiet { Quiet out.old out.new result }
 
     // A script in the grammar is served, where no count rises.
-    ensures complete { IsReplay words.now → (bytes : List ℕ) (lines : List Line) → S.left script.old ≡ Some bytes → ReadsScript bytes lines
-        → (Rose (S.faults script.old) (S.faults script.new) → ⊥) → (Rose (K.faults out.old) (K.faults out.new) → ⊥) → IsOkOrMemory result }
+    ensures complete { IsReplay words.now → (bytes : List ℕ) (lines : List Line)
+        → S.left script.old ≡ Some bytes → ReadsScript bytes lines
+        → (Rose (S.faults script.old) (S.faults script.new) → ⊥)
+        → (Rose (K.faults out.old) (K.faults out.new) → ⊥) → IsOkOrMemory result }
 {
     if is_replay(words) {
         replay(alloc, script, out)

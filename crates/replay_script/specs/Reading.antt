@@ -1,6 +1,5 @@
 -- What the reader has of a script so far: words for its own clauses.
-use Rattle.std.specs.Prelude.{◌≡◌, ◌≢◌, ℕ, ◌+◌, ◌<◌, ◌≤◌, List, [], ◌∷◌, ◌++◌, length, Option, MatchOption, fold, EachIndex, slice_index}
-use Rattle.std.specs.Int.{IsInRange}
+use Rattle.std.specs.Prelude.{◌≡◌, ◌≢◌, ℕ, ◌+◌, ◌<◌, ◌≤◌, List, [], ◌∷◌, ◌++◌, length, Option, MatchOption, fold}
 use Rattle.replay_script.specs.Line.{Line, reading, random, opening, head, ready, stop, line_text, Fits, Begins, IsWordOrOpening, IsFirstHeadLine, IsHeadLine, IsReady, IsStop}
 use Rattle.replay_script.specs.Script.{text_of, head_part, words_part, reading_behind, conn_behind, IsBeginning, Says}
 use Rattle.replay_script.specs.declared.line.Said.{Said}
@@ -24,12 +23,6 @@ abbrev pub SpellsLine : List ℕ → Option Said → Type 0
 SpellsLine text result = MatchOption result
     ((line : Line) → Fits line → text ≢ line_text line)
     (λ line. Fits (line_of line) × (text ≡ line_text (line_of line)))
-
--- decimal digits with no leading zero, but for 0 itself
-pub record IsPlainNumeral (text : List ℕ) : Type 0 where
-  pub some : 0 < length text
-  pub digits : EachIndex text (λ i. IsInRange 48 57 (slice_index text i))
-  pub leading : slice_index text 0 ≡ 48 → length text ≡ 1
 
 -- the place behind a line
 abbrev pub place_behind : Line → Place

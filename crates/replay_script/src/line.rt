@@ -1,10 +1,9 @@
 //! The lines of a script, read from their bytes.
 
-ghost use Rattle.std.specs.Prelude.{◌≡◌, ◌≢◌, ◌<◌, ◌^◌, ◌↔◌, ◌++◌, ℕ, List, slice_index, EachIndex, IsTrue, MatchOption, All, codes, decimal};
-ghost use Rattle.std.specs.Int.{IsInRange};
-ghost use Rattle.replay_script.specs.Reading.{line_of, SpellsLine, IsPlainNumeral};
+ghost use Rattle.std.specs.Prelude.{◌≡◌, ◌≢◌, ◌<◌, ◌^◌, ◌++◌, ℕ, MatchOption, All, codes, decimal};
+ghost use Rattle.replay_script.specs.Reading.{SpellsLine};
 
-use b2_base::{behind, cut_at, read_sixteen};
+use b2_base::{behind, cut_at, read_decimal, read_sixteen};
 
 /// What a line says.
 #[derive(Clone, Copy, Debug)]
@@ -22,40 +21,10 @@ pub enum Said<'a> {
     Stop,
 }
 
-fn is_digits(text: &[u8]) -> bool
-    ensures { IsTrue result ↔ EachIndex text.now (λ i. IsInRange 48 57 (slice_index text.now i)) }
-{
-    text.iter().all(|byte| byte.is_ascii_digit())
-}
-
-// Whether the text is decimal digits with no leading zero, but for `0` itself.
-fn is_numeral(text: &[u8]) -> bool
-    ensures { IsTrue result ↔ IsPlainNumeral text.now }
-{
-    let is_padded = text.len() > 1 && text[0] == b'0';
-    !text.is_empty() && !is_padded && is_digits(text)
-}
-
-/// The number that is written so, in decimal with no sign and no leading zero.
-pub fn number_of(text: &[u8]) -> Option<u64>
-    ensures { MatchOption result ((n : ℕ) → n < 2 ^ 64 → text.now ≢ decimal n) (λ n. text.now ≡ decimal n) }
-{
-    if !is_numeral(text) {
-        return None;
-    }
-    let Ok(text) = str::from_utf8(text) else {
-        return None;
-    };
-    let Ok(number) = text.parse::<u64>() else {
-        return None;
-    };
-    Some(number)
-}
-
 fn conn_of(text: &[u8]) -> Option<u32>
     ensures { MatchOption result ((n : ℕ) → n < 2 ^ 32 → text.now ≢ decimal n) (λ n. text.now ≡ decimal n) }
 {
-    let number = number_of(text)?;
+    let number = read_decimal(text)?;
     u32::try_from(number).ok()
 }
 
@@ -79,7 +48,7 @@ pub fn read_line(text: &[u8]) -> Option<Said<'_>>
     ensures { SpellsLine text.now result }
 {
     if let Some(time) = behind(b"at ", text) {
-        return Some(Said::Reading(number_of(time)?));
+        return Some(Said::Reading(read_decimal(time)?));
     }
     if let Some(word) = behind(b"word ", text) {
         return Some(Said::Random(read_sixteen(word)?));

@@ -8,12 +8,12 @@ returns-in_default-clause-refused c = refuses_none c.args.settings.now c.args.wo
 
 pub returns-then-not-is_master-clause-refused : goal.returns-then-not-is_master-clause-refused
 returns-then-not-is_master-clause-refused c =
-    refuses_pair c.args.settings.now c.args.words.now c.in-Some.user c.in-Some.secret c.args.call.now c.plain-then-not-is_master.result c.in-Some.is (λ same. false≢true (c.if-not-is_master.ensures.1 same))
+    refuses_pair c.args.settings.now c.args.words.now c.in-Some.credentials c.args.call.now c.plain-then-not-is_master.result c.in-Some.is (λ same. false≢true (c.if-not-is_master.ensures.1 same))
     c.plain-then-not-is_master.ensures
 
 pub returns-clause-given : goal.returns-clause-given
 returns-clause-given c =
     let own = c.if-not-is_master.ensures.0 refl in
-    gives_account c.args.settings.now c.args.words.now c.in-Some.user c.in-Some.secret c.args.call.now _ c.in-Some.is own.0 own.1
-    (same_account c.args.settings.now c.args.words.now _ c.word_at.result c.word_at-2.result (c.in_ok-copy.ensures ∙ c.get.ensures) (c.token-2.view_is ∙ c.in_ok-token.ensures) c.word_at.ensures c.word_at-2.ensures (c.in_ok-copy-2.ensures ∙ c.get-2.ensures) refl
-    c.all.ensures (c.of.ensures ∙ c.new.ensures.items) refl (c.of-2.ensures ∙ c.new-2.ensures.bytes) refl)
+    gives_account c.args.settings.now c.args.words.now c.in-Some.credentials c.args.call.now _ c.in-Some.is own.0 own.1
+    (same_account c.args.call.now.version c.args.settings.now c.args.words.now _ c.word_at.result c.word_at-2.result refl (c.in_ok-copy.ensures ∙ c.get.ensures) (c.token.view_is ∙ c.in_ok-token.ensures) c.word_at.ensures c.word_at-2.ensures (c.in_ok-copy-2.ensures ∙ c.get-2.ensures) refl
+    c.all.ensures (c.of.ensures ∙ c.new.ensures.items) (c.of-2.ensures ∙ c.new-2.ensures.bytes) refl)

@@ -1,7 +1,7 @@
 use Rattle.std.proofs.Common.{ℕ, List, Some, None, ap, ◌∙◌}
 use Rattle.b2_server.specs.Run.{shown}
 use Rattle.b2_server.proofs.Runs.{lent_says}
-use Rattle.b2_server.proofs.run.served.Goals as goal
+use Rattle.b2_server.proofs.run.output_for.Goals as goal
 
 pub returns-in_default : goal.returns-in_default
 returns-in_default c = λ lines says.
