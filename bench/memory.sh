@@ -1,14 +1,12 @@
 #!/bin/sh
 # Refuses each allocation of `b2d replay` in turn, on the script of its stored run: each run must end with
-# Memory and write nothing, but the first that asks for no more. Run it by hand; it wants a C compiler.
+# Memory and write nothing, but the first that asks for no more.
+#
+# It needs `rt` and a C compiler (`cc`). Run it by hand: it takes no times, so the machine may do other things.
 set -e
-cd "$(dirname "$0")/.."
-program=crates/b2d/out/b2d
-if [ ! -x "$program" ]; then
-    (cd crates/b2d && rt run -- replay < stdin > /dev/null)
-fi
-folder=$(mktemp -d)
-trap 'rm -rf "$folder"' EXIT
+. "$(dirname "$0")/program.sh"
+stored=$here/../crates/b2d
+build b2d replay < "$stored/stdin"
 cat > "$folder/refuse.c" <<'C'
 #define _GNU_SOURCE
 #include <dlfcn.h>
@@ -31,6 +29,19 @@ void *malloc(size_t size)
     static void *(*next)(size_t);
     if (!next) next = (void *(*)(size_t))dlsym(RTLD_NEXT, "malloc");
     return refuses() ? NULL : next(size);
+}
+
+/* dlsym itself may ask for zeroed memory, before it can tell where calloc is. It does without. */
+void *calloc(size_t count, size_t size)
+{
+    static void *(*next)(size_t, size_t);
+    static int looking;
+    if (!next) {
+        if (looking) return NULL;
+        looking = 1;
+        next = (void *(*)(size_t, size_t))dlsym(RTLD_NEXT, "calloc");
+    }
+    return refuses() ? NULL : next(count, size);
 }
 
 void *realloc(void *old, size_t size)
@@ -58,9 +69,9 @@ cc -O1 -shared -fPIC -o "$folder/refuse.so" "$folder/refuse.c" -ldl
 number=1
 while [ "$number" -le 10000 ]; do
     status=0
-    REFUSE=$number LD_PRELOAD="$folder/refuse.so" "$program" replay < crates/b2d/stdin > "$folder/out" 2> "$folder/err" || status=$?
+    REFUSE=$number LD_PRELOAD="$folder/refuse.so" "$program" replay < "$stored/stdin" > "$folder/out" 2> "$folder/err" || status=$?
     if [ "$status" -eq 0 ]; then
-        cmp "$folder/out" crates/b2d/stdout
+        cmp "$folder/out" "$stored/stdout"
         echo "$((number - 1)) allocations, each refused in turn: Memory, and nothing written"
         exit 0
     fi

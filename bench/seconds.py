@@ -1,13 +1,20 @@
-"""Seconds that a program of bench/ takes."""
+"""What `bench_calls` gives, and the seconds that its calls take."""
 import subprocess, time
+
+def given(program, what, size):
+    """What one call gives."""
+    done = subprocess.run([program, what, str(size), "1"], stdout=subprocess.PIPE, check=True)
+    return int(done.stdout)
 
 def seconds(program, what, size, times):
     start = time.perf_counter()
-    assert subprocess.run([program, what, str(size), str(times)]).returncode == 0
-    return time.perf_counter() - start
+    done = subprocess.run([program, what, str(size), str(times)], stdout=subprocess.DEVNULL)
+    taken = time.perf_counter() - start
+    assert done.returncode == 0, (what, size, times, done.returncode)
+    return taken
 
 def in_turn(program, whats, size, times, runs):
-    """Of one time of many, without the program's start: the least of so many runs of each. They run in turn,
+    """Of one call of many, without the program's start: the least of so many runs of each. They run in turn,
     so that what slows the machine down slows all of them."""
     least = {}
     for _ in range(runs):
@@ -16,6 +23,3 @@ def in_turn(program, whats, size, times, runs):
                 taken = seconds(program, what, size, count)
                 least[what, count] = min(taken, least.get((what, count), taken))
     return [(least[what, times] - least[what, 0]) / times for what in whats]
-
-def each(program, what, size, times):
-    return in_turn(program, [what], size, times, 5)[0]
