@@ -80,6 +80,12 @@ fn paths(rt: HostRuntime) -> Result<(), Fail> {
             true,
         ),
         (
+            "/b2api/v3/b2_upload_file/000000000000000000000001",
+            CallName::UploadFile,
+            ApiVersion::V3,
+            true,
+        ),
+        (
             "/b2api/v3/b2_upload_part/4_z00000001_f001fffffffffffff",
             CallName::UploadPart,
             ApiVersion::V3,
@@ -94,6 +100,30 @@ fn paths(rt: HostRuntime) -> Result<(), Fail> {
         ),
         (
             "/file//n",
+            CallName::DownloadFileByName,
+            ApiVersion::V3,
+            false,
+        ),
+        (
+            "/file/b/d/n",
+            CallName::DownloadFileByName,
+            ApiVersion::V3,
+            false,
+        ),
+        (
+            "/file/b/a%2",
+            CallName::DownloadFileByName,
+            ApiVersion::V3,
+            false,
+        ),
+        (
+            "/file/b/a+b%20c",
+            CallName::DownloadFileByName,
+            ApiVersion::V3,
+            false,
+        ),
+        (
+            "/file/b/a%7Fb",
             CallName::DownloadFileByName,
             ApiVersion::V3,
             false,

@@ -136,7 +136,11 @@ fn shown(alloc: Global, bytes: &[u8]) -> Result<String, Fail> {
     }
 }
 
-const LINES: [(&[u8], &str); 31] = [
+const LINES: [(&[u8], &str); 32] = [
+    (
+        b"POST @ HTTP/1.1\nContent-Length: 5\n\n",
+        "POST ? 5 content-length=5",
+    ),
     // A call that is none is told before a length that is amiss.
     (b"PUT @ HTTP/1.1\nContent-Length: x\n\n", "BadMethod"),
     (b"GET /x HTTP/1.1\nTransfer-Encoding: chunked\n\n", "NoCall"),
@@ -191,7 +195,7 @@ const VALUES: [(&[u8], &str); 9] = [
     (b"Range: b\x7fc\r\n", "BadHead"),
 ];
 
-const FIELDS: [(&[u8], &str); 22] = [
+const FIELDS: [(&[u8], &str); 33] = [
     // No white space stands before the colon (RFC 9112, section 5.1), nor in front of the first field
     // (section 2.2), and no line is folded (section 5.2).
     (b"Range : b\r\n", "BadHead"),
@@ -223,7 +227,21 @@ const FIELDS: [(&[u8], &str); 22] = [
         "GET ? 0",
     ),
     // A length is 1 to 19 digits, told once (RFC 9112, section 6, and RFC 9110, section 8.6).
-    (b"CONTENT-length:\t 5 \t\n", "GET ? 5 content-length=5"),
+    (b"", "GET ? 0"),
+    (b"Content-Length: 0\n", "GET ? 0 content-length=0"),
+    (b"CONTENT-length: 5\n", "GET ? 5 content-length=5"),
+    (b"Content-Length:\t 5 \t\n", "GET ? 5 content-length=5"),
+    (b"Content-Length: 007\n", "GET ? 7 content-length=007"),
+    (
+        b"Content-Length: 1048576\n",
+        "GET ? 1048576 content-length=1048576",
+    ),
+    (b"Content-Length: 9999999999999999999\n", "BadLength"),
+    (b"Content-Length: -1\n", "BadLength"),
+    (b"Content-Length: 5 5\n", "BadLength"),
+    (b"Content-Length: 0x5\n", "BadLength"),
+    (b"Content-Length: 5\nContent-Length: 5\n", "BadLength"),
+    (b"Transfer-Encoding: chunked\n", "BadLength"),
     (
         b"Content-Length: 0000000000000000007\n",
         "GET ? 7 content-length=0000000000000000007",
@@ -233,7 +251,7 @@ const FIELDS: [(&[u8], &str); 22] = [
     (b"Content-Length:\n", "BadLength"),
     (b"Content-Length: +5\n", "BadLength"),
     (b"Content-Length: 5,5\n", "BadLength"),
-    (b"Content-Length: 5\nA: b\ncontent-length: 5\n", "BadLength"),
+    (b"Content-Length: 5\nA: b\ncontent-length: 6\n", "BadLength"),
     (b"transfer-encoding:\nContent-Length: 5\n", "BadLength"),
 ];
 
