@@ -50,7 +50,8 @@ pub(crate) fn hold_name(hold: bool) -> &'static str
 
 fn put_hold(map: &mut Map<String, Value>, alloc: Global, hold: &Option<bool>) -> Result<(), Memory>
     ensures { OnOk result (members_view map.new.entries
-        ≡ put_all (members_view map.old.entries) ((codes "legalHold", readable hold_json hold.now) ∷ [])) }
+        ≡ put_all (members_view map.old.entries)
+        ((codes "legalHold", readable hold_json hold.now) ∷ [])) }
 {
     let Some(hold) = hold else {
         return put_readable(map, alloc, "legalHold", &None::<Text>);
@@ -74,7 +75,10 @@ fn action_name(action: RowKind) -> &'static str
 fn put_row_id(map: &mut Map<String, Value>, alloc: Global, file: &ShownFile) -> Result<(), Memory>
     ensures { OnOk result (members_view map.new.entries
         ≡ put_all (members_view map.old.entries)
-        ((codes "fileId", id_by (string (file_id file.now.bucket file.now.num)) file.now.action) ∷ [])) }
+        ((
+          codes "fileId",
+          id_by (string (file_id file.now.bucket file.now.num)) file.now.action,
+        ) ∷ [])) }
 {
     let id = VersionId {
         bucket: file.bucket,
@@ -88,7 +92,8 @@ fn put_row_id(map: &mut Map<String, Value>, alloc: Global, file: &ShownFile) -> 
 
 fn put_no_encryption(map: &mut Map<String, Value>, alloc: Global) -> Result<(), Memory>
     ensures { OnOk result (members_view map.new.entries
-        ≡ put_all (members_view map.old.entries) ((codes "serverSideEncryption", no_encryption) ∷ [])) }
+        ≡ put_all (members_view map.old.entries)
+        ((codes "serverSideEncryption", no_encryption) ∷ [])) }
 {
     let mut inner = Map::new(alloc);
     put_null(&mut inner, alloc, "algorithm")?;

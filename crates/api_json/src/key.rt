@@ -32,7 +32,8 @@ fn put_first_bucket(
 
 fn put_buckets(map: &mut Map<String, Value>, alloc: Global, key: &ShownKey) -> Result<(), Memory>
     ensures { OnOk result (members_view map.new.entries
-        ≡ put_all (members_view map.old.entries) (key_buckets key.now.version key.now.buckets ∷ [])) }
+        ≡ put_all (members_view map.old.entries)
+        (key_buckets key.now.version key.now.buckets ∷ [])) }
 {
     let buckets = key.buckets.get();
     match key.version {

@@ -36,7 +36,8 @@ pub(crate) fn held_under<'a>(held: &'a BTreeMap<u64, Held>, text: &[u8]) -> Opti
 /// Sets the upload on the token of this text, where there is one.
 pub(crate) fn set_flight(held: &mut BTreeMap<u64, Held>, text: &[u8], flight: Option<ConnNum>)
     requires { AreBySerial held.old.entries }
-    ensures set { values_of held.new.entries ≡ with_flight_in text.now flight (values_of held.old.entries) }
+    ensures set { values_of held.new.entries
+        ≡ with_flight_in text.now flight (values_of held.old.entries) }
     ensures by_serial { AreBySerial held.new.entries }
     ensures same_serials { keys_of held.new.entries ≡ keys_of held.old.entries }
 {

@@ -28,12 +28,14 @@ pub trait Spelled: Sized {
         requires limits { fits self.now }
         requires room { LONGEST_SPELLING ≤ length out.old }
         ensures len { result ≡ length (spelling self.now) }
-        ensures written { out.new ≡ spelling self.now ++ drop (length (spelling self.now)) out.old };
+        ensures written { out.new
+            ≡ spelling self.now ++ drop (length (spelling self.now)) out.old };
 
     /// The value whose spelling the bytes are, all of them.
     fn read(alloc: Global, bytes: &[u8]) -> Result<Self, Or<BadRecord>>
         ensures found { IfOk result (λ value. fits value × (bytes.now ≡ spelling value)) }
-        ensures bad { IfFault result (λ _. (value : Self) → fits value → bytes.now ≢ spelling value) };
+        ensures bad { IfFault result (λ _. (value : Self) → fits value
+            → bytes.now ≢ spelling value) };
 
     /// A spelling is not empty, and has at most 65,536 bytes.
     ghost some: { (value : Self) → fits value → 1 ≤ length (spelling value) };

@@ -26,7 +26,6 @@ pub mod AskCopies
 pub mod Ask
 pub mod UploadSteps
 pub mod Run
-pub mod LifecycleRules
 pub mod Stored
 pub mod Contents
 pub mod SmallStore

@@ -20,7 +20,7 @@ use Rattle.b2_model.specs.State.{State, bucket_at, key_at}
 use Rattle.b2_model.specs.Rows.{version_at}
 use Rattle.b2_model.specs.Lists.{is_empty}
 use Rattle.b2_model.specs.Policy.{is_same_name}
-use Rattle.b2_model.specs.LifecycleRules.{are_rules}
+use Rattle.b2_types.specs.LifecycleRules.{are_rules}
 use Rattle.b2_model.specs.Plan.{id_of, number_end}
 use Rattle.b2_model.specs.Changes.{after_record, state_of_settings}
 

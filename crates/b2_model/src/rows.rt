@@ -10,7 +10,9 @@ ghost use Rattle.b2_model.specs.SmallStore.{with_start, current_number, numbers_
 
 /// The rules of tokens are judged in the order of their names.
 pub fn order_of_token_rules()
-    ensures { (t : ℕ) (kinds : List TheKind) (who : Caller) → map (λ c. c.fault) (token_rules t kinds (λ g. true) who) ≡ map plain (P1 ∷ P2 ∷ P3 ∷ P4 ∷ P5 ∷ P6 ∷ []) }
+    ensures { (t : ℕ) (kinds : List TheKind) (who : Caller)
+        → map (λ c. c.fault) (token_rules t kinds (λ g. true) who)
+        ≡ map plain (P1 ∷ P2 ∷ P3 ∷ P4 ∷ P5 ∷ P6 ∷ []) }
 {}
 
 /// A page has 1,000 rows at most, and what is held outlives the pass.

@@ -21,7 +21,8 @@ fn authorize_answer(
     head: &Head,
 ) -> Result<AnswerOf<Blob>, Memory>
     requires named { head.now.route.name ≡ CallName.AuthorizeAccount }
-    ensures told { IfOk result (IsAnswerTo settings.now words.now head.now.route head.now.request) }
+    ensures told { IfOk result
+        (IsAnswerTo settings.now words.now head.now.route head.now.request) }
     ensures text { IfOk result IsText }
 {
     let call = authorize_call(alloc, head.route.version, &head.request)?;
@@ -41,7 +42,8 @@ pub(crate) fn dispatch(
     head: &Head,
 ) -> Result<AnswerOf<Blob>, Memory>
     requires served { serves head.now.route.version head.now.route.name ≡ true }
-    ensures told { IfOk result (IsAnswerTo settings.now words.now head.now.route head.now.request) }
+    ensures told { IfOk result
+        (IsAnswerTo settings.now words.now head.now.route head.now.request) }
     ensures text { IfOk result IsText }
 {
     match head.route.name {

@@ -101,6 +101,25 @@ fault_entry kind.Cap = entry forbidden (codes "cap_exceeded") (codes "no number 
 fault_entry kind.ManyBuckets = entry bad_request (codes "bad_request") (codes "key has several buckets")
 fault_entry kind.LongCopy = entry bad_request (codes "bad_request") (codes "copy is too long")
 
+-- what a refusal tells beside its kind
+pub data Telling : Type 0 where
+  NoMore : Telling
+  AWord : Telling
+  ANumber : Telling
+
+-- a field or a header by its name; a revision, and the number of a part or of parts
+abbrev pub telling : FaultKind → Telling
+telling kind.Missing = AWord
+telling kind.Wrong = AWord
+telling kind.BadHeader = AWord
+telling kind.Unsupported = AWord
+telling kind.Conflict = ANumber
+telling kind.Gap = ANumber
+telling kind.Count = ANumber
+telling kind.Sha = ANumber
+telling kind.Small = ANumber
+telling other = NoMore
+
 -- the rule of the policy that a kind names
 abbrev pub rule_of : FaultKind → Option Denial
 rule_of kind.P1 = Some rule.P1

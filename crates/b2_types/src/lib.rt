@@ -32,7 +32,7 @@ pub use fault_table::{code_of, message_of, reason_of, rule_of, status_of, text_o
 pub use key::{Flight, Grant, Key};
 pub use key_ids::key_id;
 pub use kinds::{Action, ApiVersion, Mark, Mode, Period, Retention, TokenKind};
-pub use laws::rows_and_fields;
+pub use laws::{rows_and_fields, rules_and_kinds};
 pub use need_table::{Need, Thing, need_of};
 pub use record::{ChangeOf, NewVersion, Numbers, Record, RecordOf, VersionId};
 pub use shown::{

@@ -9,17 +9,23 @@ ghost use Rattle.call_paths.specs.Path.{IsDownloadOf, IsPath, IsRouted, IsRouteF
 /// one way.
 pub fn one_path()
     ensures route { (path : List ℕ) (a b : TheRoute) → IsPath path a → IsPath path b → a ≡ b }
-    ensures parts { (path bucket name other more : List ℕ) → IsDownloadOf path bucket name → IsDownloadOf path other more → (bucket ≡ other) × (name ≡ more) }
+    ensures parts { (path bucket name other more : List ℕ) → IsDownloadOf path bucket name
+        → IsDownloadOf path other more → (bucket ≡ other) × (name ≡ more) }
 {}
 
 /// What reads paths reads each back as the route that it was written for.
 pub fn path_read_back()
-    ensures { (path : List ℕ) (route : TheRoute) (found : Option TheRoute) → IsPath path route → MatchOption found ((r : TheRoute) → IsPath path r → ⊥) (IsPath path) → found ≡ Some route }
+    ensures { (path : List ℕ) (route : TheRoute) (found : Option TheRoute) → IsPath path route
+        → MatchOption found ((r : TheRoute) → IsPath path r → ⊥) (IsPath path)
+        → found ≡ Some route }
 {}
 
 /// A request is for one call, or there is one reason why it is for none.
 pub fn one_route()
-    ensures call { (method path : List ℕ) (a b : TheRoute) → IsRouted method path a → IsRouted method path b → a ≡ b }
-    ensures fault { (method path : List ℕ) (a b : TheKind) → IsRouteFault method path a → IsRouteFault method path b → a ≡ b }
-    ensures either { (method path : List ℕ) (a : TheRoute) (b : TheKind) → IsRouted method path a → IsRouteFault method path b → ⊥ }
+    ensures call { (method path : List ℕ) (a b : TheRoute) → IsRouted method path a
+        → IsRouted method path b → a ≡ b }
+    ensures fault { (method path : List ℕ) (a b : TheKind) → IsRouteFault method path a
+        → IsRouteFault method path b → a ≡ b }
+    ensures either { (method path : List ℕ) (a : TheRoute) (b : TheKind) → IsRouted method path a
+        → IsRouteFault method path b → ⊥ }
 {}

@@ -97,7 +97,8 @@ fn offers(version: ApiVersion, name: CallName) -> bool
 // The version and the call, where the path is of a name alone.
 fn name_path(path: &[u8]) -> Option<(ApiVersion, CallName)>
     ensures { MatchOption result
-        ((v : TheVersion) (n : TheName) → (offers v n && has_name_path n) ≡ true → IsNamePath path.now v n → ⊥)
+        ((v : TheVersion) (n : TheName) → (offers v n && has_name_path n) ≡ true
+        → IsNamePath path.now v n → ⊥)
         (λ p. ((offers p.0 p.1 && has_name_path p.1) ≡ true) × IsNamePath path.now p.0 p.1) }
 {
     let Some((version, text)) = after_version(path) else {
@@ -112,7 +113,8 @@ fn name_path(path: &[u8]) -> Option<(ApiVersion, CallName)>
 
 /// What the path is, where it is that of a call.
 pub fn read_path(path: &[u8]) -> Option<Route>
-    ensures { MatchOption result ((route : TheRoute) → IsPath path.now route → ⊥) (IsPath path.now) }
+    ensures { MatchOption result ((route : TheRoute) → IsPath path.now route → ⊥)
+        (IsPath path.now) }
 {
     if let Some((version, name)) = name_path(path) {
         let target = Target::Nothing;

@@ -38,7 +38,8 @@ fn takes_method(name: CallName, method: &[u8]) -> bool
 
 /// The call that a request with this method and path is for, or why it is for none.
 pub fn route_of(method: &[u8], path: &[u8]) -> Result<Route, FaultKind>
-    ensures { MatchResult result (IsRouted method.now path.now) (IsRouteFault method.now path.now) }
+    ensures { MatchResult result (IsRouted method.now path.now)
+        (IsRouteFault method.now path.now) }
 {
     let Some(route) = read_path(path) else {
         return Err(FaultKind::NoCall);

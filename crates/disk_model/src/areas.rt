@@ -15,7 +15,8 @@ pub struct Areas {
     pub log0: Vec<u8>,
     pub log1: Vec<u8>,
     pub blobs: Vec<u8>,
-    ghost small: { (length log0.items ≤ 2 ^ 62) × (length log1.items ≤ 2 ^ 62) × (length blobs.items ≤ 2 ^ 62) },
+    ghost small: { (length log0.items ≤ 2 ^ 62) × (length log1.items ≤ 2 ^ 62)
+        × (length blobs.items ≤ 2 ^ 62) },
 }
 
 // Fills up to a length.

@@ -78,7 +78,8 @@ impl MemDisk {
     fn write(&mut self, area: Area, at: u64, bytes: &[u8]) -> Result<(), Memory>
         requires { at + length bytes.now ≤ 2 ^ 62 }
         ensures done { mem_done self.new ≡ (if is_ok result
-            then one_more (mem_calls self.old).made area (Change.Write at bytes.now) (mem_done self.old)
+            then one_more (mem_calls self.old).made area (Change.Write at bytes.now)
+            (mem_done self.old)
             else mem_done self.old) }
         ensures calls { mem_calls self.new ≡ mem_calls self.old }
     {
@@ -178,7 +179,8 @@ impl Disk for MemDisk {
             (mem_state self.new) }
         ensures cause { HasCause (mem_calls self.old).faults (mem_calls self.new).faults result }
         ensures done { OnOk result (mem_done self.new ≡
-            one_more (raised (mem_calls self.old).made) area (Change.Write at bytes.now) (mem_done self.old)) }
+            one_more (raised (mem_calls self.old).made) area (Change.Write at bytes.now)
+            (mem_done self.old)) }
         ensures counts { CountsCall ⊥ (mem_calls self.old) (mem_calls self.new) result }
     {
         let fails = self.calls.fails_now();
@@ -202,7 +204,8 @@ impl Disk for MemDisk {
         ensures cuts { Changes (ResizedIn area len) (mem_state self.old) (mem_state self.new) }
         ensures cause { HasCause (mem_calls self.old).faults (mem_calls self.new).faults result }
         ensures done { OnOk result (mem_done self.new ≡
-            one_more (raised (mem_calls self.old).made) area (Change.Cut len) (mem_done self.old)) }
+            one_more (raised (mem_calls self.old).made) area (Change.Cut len)
+            (mem_done self.old)) }
         ensures counts { CountsCall ⊥ (mem_calls self.old) (mem_calls self.new) result }
     {
         let fails = self.calls.fails_now();

@@ -7,6 +7,7 @@ use Rattle.json_shape.specs.Fields.{field, number_within, object_alone}
 use Rattle.b2_types.specs.declared.fault.Fault.{Fault}
 use Rattle.b2_types.specs.declared.bucket.DefaultRetention.{DefaultRetention}
 use Rattle.b2_types.specs.declared.bucket.Rule.{Rule}
+use Rattle.b2_types.specs.LifecycleRules.{are_apart}
 use Rattle.b2_types.specs.declared.kinds.Mode.{Mode}
 use Rattle.b2_types.specs.declared.kinds.Period.{Period}
 use Rattle.b2_types.specs.declared.kinds.Period.TheVariants as unit
@@ -30,14 +31,6 @@ if_read (Err f) = None
 
 abbrev pub rule : Data → Option Rule
 rule d = if_read (rule_fields d)
-
--- one prefix begins the other
-abbrev pub overlap : Rule → Rule → Bool
-overlap r s = starts_with nat_eq s.prefix r.prefix || starts_with nat_eq r.prefix s.prefix
-
-abbrev pub are_apart : List Rule → Bool
-are_apart [] = true
-are_apart (r ∷ rs) = not (list_any (overlap r) rs) && are_apart rs
 
 abbrev pub prefix_bytes : List Rule → ℕ
 prefix_bytes rules = sum_by (λ r. length r.prefix) rules

@@ -30,7 +30,8 @@ fn push_pair(
 
 // The pairs of an object of texts.
 fn texts_of(alloc: Global, map: &Map<String, Value>) -> Result<Option<Vec<(Text, Text)>>, Memory>
-    ensures { IfOk result (λ o. option_map (λ v. v.items) o ≡ texts_of (members_view map.now.entries)) }
+    ensures { IfOk result (λ o. option_map (λ v. v.items) o
+        ≡ texts_of (members_view map.now.entries)) }
 {
     let mut pairs = Vec::new(alloc);
     for (key, value) in map.iter() {

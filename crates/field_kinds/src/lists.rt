@@ -11,7 +11,8 @@ use serde_json::Value;
 use std::alloc::Global;
 
 fn each_of<T: FromJson + Drop>(alloc: Global, items: &[Value]) -> Result<Option<Vec<T>>, Memory>
-    ensures { IfOk result (λ o. option_map (λ v. v.items) o ≡ each_of T.kind (items_view items.now)) }
+    ensures { IfOk result (λ o. option_map (λ v. v.items) o
+        ≡ each_of T.kind (items_view items.now)) }
 {
     let mut list = Vec::new(alloc);
     for item in items {

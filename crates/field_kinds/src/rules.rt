@@ -5,11 +5,13 @@ ghost use Rattle.std.specs.List.{list_any};
 ghost use Rattle.serde_json.specs.View.{view};
 ghost use Rattle.json_shape.specs.Fields.{Gives};
 ghost use Rattle.field_kinds.specs.Reader.{optional};
-ghost use Rattle.field_kinds.specs.Rules.{rule_fields, rule, overlap, are_apart, prefix_bytes, are_rules, rules};
+ghost use Rattle.b2_types.specs.LifecycleRules.{overlap, are_apart};
+ghost use Rattle.field_kinds.specs.Rules.{rule_fields, rule, prefix_bytes, are_rules, rules};
 
 use crate::reader::{FromJson, needed, optional, optional_u32, wrong};
 use b2_base::{List, Memory, Or};
 use b2_types::{Fault, Rule};
+use name_rules::is_prefix;
 use serde_json::Value;
 use std::alloc::Global;
 
@@ -46,7 +48,7 @@ fn overlap(rule: &Rule, other: &Rule) -> bool
 {
     let prefix = rule.prefix.get().as_bytes();
     let others = other.prefix.get().as_bytes();
-    others.starts_with(prefix) | prefix.starts_with(others)
+    is_prefix(prefix, others) | is_prefix(others, prefix)
 }
 
 fn overlaps_any(rule: &Rule, others: &[Rule]) -> bool

@@ -40,7 +40,8 @@ fn whole_request(bytes: &[u8], room: &mut [HeaderSpan]) -> Option<RequestSpans>
         × IsRequestAt bytes.now room.new spans h) }
     ensures within { IfSome result (IsRequestWithin bytes.now room.new) }
     ensures len { IfSome result (λ spans. spans.len ≡ length bytes.now) }
-    ensures clean { IfSome result (λ spans. All (IsClean bytes.now) (take spans.headers room.new)) }
+    ensures clean { IfSome result
+        (λ spans. All (IsClean bytes.now) (take spans.headers room.new)) }
     ensures method_text { IfSome result (λ spans. IsUtf8 (span_bytes bytes.now spans.method)) }
     ensures target_text { IfSome result (λ spans. IsUtf8 (span_bytes bytes.now spans.path)) }
 {

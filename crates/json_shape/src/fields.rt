@@ -68,7 +68,8 @@ pub fn number_field(
     low: u64,
     high: u64,
 ) -> Result<u64, Or<FieldFault>>
-    ensures { Gives (λ n. n) result (needed_field (number_within low high) key.now (view value.now)) }
+    ensures { Gives (λ n. n) result
+        (needed_field (number_within low high) key.now (view value.now)) }
 {
     let found = match value.get(key) {
         None | Some(Value::Null) => return Err(missing_field(alloc, key)),
@@ -82,7 +83,8 @@ pub fn number_field(
 
 /// The values of the list at the key.
 pub fn list_field(alloc: Global, value: &Value, key: &str) -> Result<Vec<Value>, Or<FieldFault>>
-    ensures { Gives (λ v. items_view v.items) result (needed_field as_array key.now (view value.now)) }
+    ensures { Gives (λ v. items_view v.items) result
+        (needed_field as_array key.now (view value.now)) }
 {
     match value.get(key) {
         None | Some(Value::Null) => Err(missing_field(alloc, key)),

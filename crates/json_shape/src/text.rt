@@ -16,7 +16,8 @@ use std::alloc::Global;
 pub fn render(alloc: Global, value: &Value) -> Result<Text, Memory>
     ensures text { IfOk result (λ t. has_float (view value.now) ≡ false
         → t ≡ compact_text (view value.now)) }
-    ensures back { IfOk result (λ t. depth (view value.now) ≤ MOST_DEPTH → Reads t (view value.now)) }
+    ensures back { IfOk result (λ t. depth (view value.now) ≤ MOST_DEPTH
+        → Reads t (view value.now)) }
 {
     Ok(Text::of(value.to_string(alloc)?))
 }

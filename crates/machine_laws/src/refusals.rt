@@ -78,7 +78,8 @@ pub fn order_of_refusals<C>()
         ≡ policy_rules M t (judged_call c) (λ g. true) who p.exists ++ p.own }
     ensures amiss { (M : State C) (t : ℕ) (who : Caller) (c : TheBadCall) (p : Plan C)
         → is_open M (Bad c) ≡ false
-        → refusals M t who (Bad c) p ≡ token_rules t (need c.name).tokens (λ g. true) who ++ p.own }
+        → refusals M t who (Bad c) p
+        ≡ token_rules t (need c.name).tokens (λ g. true) who ++ p.own }
     ensures open_to_all { (M : State C) (t : ℕ) (who : Caller) (c : TheCall) (p : Plan C)
         → is_open M c ≡ true → refusals M t who c p ≡ p.exists ++ p.own }
 {}

@@ -71,7 +71,8 @@ fn with_spaces(alloc: Global, bytes: &[u8]) -> Result<Vec<u8>, Memory>
 
 /// The name that the bytes stand for: a plus is a space, and an escape the byte that its digits are.
 pub fn decode_name(alloc: Global, bytes: &[u8]) -> Result<FileName, Or<EscapeFault>>
-    ensures name { IfOk result (λ n. HasNoBadEscape bytes.now (length bytes.now) × (n ≡ decoded_name bytes.now)) }
+    ensures name { IfOk result (λ n. HasNoBadEscape bytes.now (length bytes.now)
+        × (n ≡ decoded_name bytes.now)) }
     ensures fault { IfFault result (λ fault. IsEscapeFault bytes.now fault) }
 {
     if let Some(at) = bad_escape(bytes) {

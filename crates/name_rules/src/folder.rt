@@ -12,7 +12,8 @@ pub fn is_prefix(prefix: &[u8], name: &[u8]) -> bool
 
 /// The length of the name's folder: up to the end of the first delimiter after the prefix.
 pub fn folder_of(name: &[u8], prefix: &[u8], delimiter: &[u8]) -> Option<usize>
-    ensures { result ≡ folder_end delimiter.now (length prefix.now) (drop (length prefix.now) name.now) }
+    ensures { result
+        ≡ folder_end delimiter.now (length prefix.now) (drop (length prefix.now) name.now) }
 {
     let mut at = prefix.len();
     'places: while at < name.len() {

@@ -11,9 +11,11 @@ ghost use Rattle.name_rules.specs.declared.decode.EscapeFault.{EscapeFault};
 /// escape.
 #[tactic(auto, using(crate::proofs::Back::decoded_back, crate::proofs::Back::reads_back, crate::proofs::Back::all_sent, crate::proofs::Back::none_bad))]
 pub fn escaped_names()
-    ensures back { (bytes : List ℕ) → All (λ byte. byte < 256) bytes → decoded_name (encoded_name bytes) ≡ bytes }
+    ensures back { (bytes : List ℕ) → All (λ byte. byte < 256) bytes
+        → decoded_name (encoded_name bytes) ≡ bytes }
     ensures whole { (bytes : List ℕ) (fault : EscapeFault) → IsFileName bytes
         → All (λ byte. byte < 256) bytes → IsEscapeFault (encoded_name bytes) fault → ⊥ }
     ensures bytes { (bytes : List ℕ) → All IsSent (encoded_name bytes) }
-    ensures escapes { (bytes : List ℕ) → HasNoBadEscape (encoded_name bytes) (length (encoded_name bytes)) }
+    ensures escapes { (bytes : List ℕ)
+        → HasNoBadEscape (encoded_name bytes) (length (encoded_name bytes)) }
 {}

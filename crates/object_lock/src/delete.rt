@@ -5,7 +5,7 @@ ghost use Rattle.std.specs.Option.{option_copied};
 ghost use Rattle.b2_model.specs.Checks.{first_fault, some_and};
 ghost use Rattle.b2_model.specs.Kinds.{is_compliance, is_governance};
 ghost use Rattle.b2_model.specs.Locks.{deletion_rules, is_held};
-ghost use Rattle.policy_rules.specs.Denied.{denied};
+ghost use Rattle.b2_types.specs.Denied.{denied};
 
 use crate::rules::{active_retention, governance};
 use b2_base::Moment;

@@ -3,7 +3,7 @@
 ghost use Rattle.std.specs.Prelude.{◌≡◌};
 ghost use Rattle.b2_model.specs.Checks.{first_fault};
 ghost use Rattle.b2_model.specs.Locks.{active_retention, governance_rules};
-ghost use Rattle.policy_rules.specs.Denied.{denied};
+ghost use Rattle.b2_types.specs.Denied.{denied};
 
 use b2_base::Moment;
 use b2_types::{Action, Denial, Retention, Version};

@@ -14,7 +14,8 @@ pub trait Clock {
     /// The next reading, in milliseconds since 1970. It cannot fail: after the readings ahead it is the
     /// last one again. Readings may fall.
     fn now(&mut self) -> u64
-        ensures { GivesReading (ahead self.old) (last self.old) result (ahead self.new) (last self.new) };
+        ensures { GivesReading (ahead self.old) (last self.old) result
+            (ahead self.new) (last self.new) };
 }
 
 /// A clock that gives a list of readings, and then the last of them again.

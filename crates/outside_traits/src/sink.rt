@@ -39,7 +39,8 @@ impl MemSink {
     /// An empty sink, whose calls with the numbers in `fails` fail.
     pub fn new(alloc: Global, fails: Vec<u64>) -> MemSink
         ensures bytes { sink_bytes result ≡ [] }
-        ensures calls { sink_calls result ≡ record { fails = fails; made = 0; faults = 0; short = 0 } }
+        ensures calls { sink_calls result
+            ≡ record { fails = fails; made = 0; faults = 0; short = 0 } }
     {
         MemSink {
             bytes: Vec::new(alloc),
@@ -96,7 +97,8 @@ impl Sink for MemSink {
 /// Writes the bytes, all of them. At an `Err` the sink took a front of them.
 pub fn write_all<K: Sink>(sink: &mut K, bytes: &[u8]) -> Result<(), Failed>
     ensures ok { OnOk result (Appends (K.contents sink.old) (K.contents sink.new) bytes.now) }
-    ensures err { OnErr result (AppendsFront (K.contents sink.old) (K.contents sink.new) bytes.now) }
+    ensures err { OnErr result
+        (AppendsFront (K.contents sink.old) (K.contents sink.new) bytes.now) }
     ensures cause { HasCause (K.faults sink.old) (K.faults sink.new) result }
 {
     let mut at = 0;

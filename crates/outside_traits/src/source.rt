@@ -39,7 +39,8 @@ impl MemSource {
     /// A source of these bytes, whose calls with the numbers in `fails` fail.
     pub fn new(bytes: Vec<u8>, fails: Vec<u64>) -> MemSource
         ensures left { source_left result ≡ bytes.items }
-        ensures calls { source_calls result ≡ record { fails = fails; made = 0; faults = 0; short = 0 } }
+        ensures calls { source_calls result
+            ≡ record { fails = fails; made = 0; faults = 0; short = 0 } }
     {
         MemSource {
             bytes,
@@ -79,7 +80,8 @@ impl Source for MemSource {
         ensures bound { ReadsAtMost result buf.new }
         ensures bytes { ReadConsumes
             (Some (source_left self.old)) (Some (source_left self.new)) result buf.new }
-        ensures cause { HasCause (source_calls self.old).faults (source_calls self.new).faults result }
+        ensures cause { HasCause (source_calls self.old).faults
+            (source_calls self.new).faults result }
         ensures fails { IsErr result ↔ IsToFail (source_calls self.old) }
         ensures counted { (source_calls self.new).made ≡ raised (source_calls self.old).made }
         ensures same { (source_calls self.new).fails ≡ (source_calls self.old).fails }

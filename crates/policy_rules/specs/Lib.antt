@@ -1,2 +1,1 @@
-pub mod Denied
 pub mod Asked

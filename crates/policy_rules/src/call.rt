@@ -7,7 +7,7 @@ ghost use Rattle.rule_table.specs.CapSet.{has};
 ghost use Rattle.b2_model.specs.Checks.{first_fault, some_and};
 ghost use Rattle.b2_model.specs.Policy.{call_rules, lacks};
 ghost use Rattle.policy_rules.specs.Asked.{caller, judged};
-ghost use Rattle.policy_rules.specs.Denied.{denied};
+ghost use Rattle.b2_types.specs.Denied.{denied};
 
 use crate::asked::{Asked, Asker};
 use crate::known::Known;

@@ -4,7 +4,6 @@
 
 mod asked;
 mod call;
-mod denied;
 mod known;
 mod name;
 mod place;
@@ -12,7 +11,6 @@ mod token;
 
 pub use asked::{Asked, Asker, Fields, SomeBucket};
 pub use call::call_rule;
-pub use denied::fault_of;
 pub use known::Known;
 pub use name::name_rule;
 pub use token::token_rule;

@@ -7,7 +7,7 @@ ghost use Rattle.name_rules.specs.Folder.{begins_with};
 ghost use Rattle.b2_model.specs.Checks.{first_fault, some_and};
 ghost use Rattle.b2_model.specs.Policy.{items, name_at, name_rule, names_at};
 ghost use Rattle.policy_rules.specs.Asked.{caller, judged, named, numbers};
-ghost use Rattle.policy_rules.specs.Denied.{denied};
+ghost use Rattle.b2_types.specs.Denied.{denied};
 
 use crate::asked::{Asked, Asker, Fields};
 use crate::known::Known;

@@ -8,7 +8,7 @@ ghost use Rattle.b2_model.specs.Checks.{first_fault};
 ghost use Rattle.b2_model.specs.Policy.{token_rules, is_of_kinds};
 ghost use Rattle.b2_model.specs.UploadSteps.{fits};
 ghost use Rattle.policy_rules.specs.Asked.{caller};
-ghost use Rattle.policy_rules.specs.Denied.{denied};
+ghost use Rattle.b2_types.specs.Denied.{denied};
 
 use crate::asked::Asker;
 use b2_base::Moment;

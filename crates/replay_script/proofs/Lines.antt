@@ -4,8 +4,8 @@ use Rattle.std.proofs.lemmas.List.Concat.{flat_map-append}
 use Rattle.std.proofs.lemmas.Fmt.{decimal_injective}
 use Rattle.b2_base.specs.Digits.{sixteen_digits}
 use Rattle.replay_script.specs.Line.{Line, reading, random, opening, head, ready, stop, line_text, Fits}
-use Rattle.replay_script.specs.Script.{text_of, head_of, head_part, words_of, words_part, reading_behind, conn_behind, IsBeginning}
-use Rattle.replay_script.specs.Reading.{place_of, place_behind, MayStand, Progress, AddsLine}
+use Rattle.replay_script.specs.Script.{text_of, head_of, head_part, words_of, words_part, reading_after, conn_after, IsBeginning}
+use Rattle.replay_script.specs.Reading.{place_of, place_after, MayStand, Progress, AddsLine}
 use Rattle.replay_script.specs.declared.script.Script.{Script}
 use Rattle.replay_script.specs.declared.reader.Reader.{Reader}
 use Rattle.replay_script.specs.declared.place.Place.{Place}
@@ -78,7 +78,7 @@ wrong_head before reader said so_far fits long line same beginning =
 
 -- the line was taken
 pub goes_on : (before : List Line) (reader : Reader) (said : Line) (script : Script) (text : List ℕ) (behind : Place)
-    → Progress before reader → Fits said → text ≡ line_text said → MayStand reader.place said → behind ≡ place_behind said
+    → Progress before reader → Fits said → text ≡ line_text said → MayStand reader.place said → behind ≡ place_after said
     → AddsLine said reader.script script → reader.size + length text + 1 ≤ 67108864
     → Progress (before ++ said ∷ []) (record { place = behind; script = script; size = reader.size + length text + 1 })
 goes_on before reader said script text behind so_far fits is may stands adds size = record {
@@ -90,9 +90,9 @@ goes_on before reader said script text behind so_far fits is may stands adds siz
   };
   place = stands ∙ sym (place_of_push before said);
   says = record {
-    reading = adds.reading ∙ ap (λ n. reading_behind n said) so_far.says.reading ∙ sym (fold_push reading_behind 0 before said);
+    reading = adds.reading ∙ ap (λ n. reading_after n said) so_far.says.reading ∙ sym (fold_push reading_after 0 before said);
     words = adds.words ∙ ap (λ xs. xs ++ words_part said) so_far.says.words ∙ sym (words_push before said);
-    conn = adds.conn ∙ ap (λ n. conn_behind n said) so_far.says.conn ∙ sym (fold_push conn_behind 0 before said);
+    conn = adds.conn ∙ ap (λ n. conn_after n said) so_far.says.conn ∙ sym (fold_push conn_after 0 before said);
     head = adds.head ∙ ap (λ xs. xs ++ head_part said) so_far.says.head ∙ sym (head_push before said);
   };
   size = omega (arith, size_push before said, so_far.size, ap length is);

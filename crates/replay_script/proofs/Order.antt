@@ -4,12 +4,12 @@ use Rattle.std.proofs.lemmas.Bool.{false≢true}
 use Rattle.std.specs.List.{AllByRecursion}
 use Rattle.replay_script.specs.Line.{Line, reading, random, opening, head, ready, stop, Follows}
 use Rattle.replay_script.specs.Script.{IsChain, IsInOrder}
-use Rattle.replay_script.specs.Reading.{place_of, place_behind, MayStand}
+use Rattle.replay_script.specs.Reading.{place_of, place_after, MayStand}
 use Rattle.replay_script.specs.declared.place.Place.{Place}
 use Rattle.replay_script.specs.declared.place.Place.TheVariants as place
 
 -- what stands behind a line is what may stand at the place behind it
-pub follows_from_place : (line next : Line) → MayStand (place_behind line) next → Follows line next
+pub follows_from_place : (line next : Line) → MayStand (place_after line) next → Follows line next
 follows_from_place (reading time) next may = may
 follows_from_place (random word) next may = may
 follows_from_place (opening conn) next may = may
@@ -18,7 +18,7 @@ follows_from_place (head conn (byte ∷ text)) next may = may
 follows_from_place (ready conn) next may = may
 follows_from_place stop next may = may
 
-pub place_from_follows : (line next : Line) → Follows line next → MayStand (place_behind line) next
+pub place_from_follows : (line next : Line) → Follows line next → MayStand (place_after line) next
 place_from_follows (reading time) next may = may
 place_from_follows (random word) next may = may
 place_from_follows (opening conn) next may = may
@@ -27,10 +27,10 @@ place_from_follows (head conn (byte ∷ text)) next may = may
 place_from_follows (ready conn) next may = may
 place_from_follows stop next may = may
 
-abbrev behind_all : Place → List Line → Place
-behind_all before lines = fold (λ p line. place_behind line) before lines
+abbrev place_after_all : Place → List Line → Place
+place_after_all before lines = fold (λ p line. place_after line) before lines
 
-chain_push : (line : Line) (lines : List Line) (next : Line) → IsChain line lines → MayStand (behind_all (place_behind line) lines) next → IsChain line (lines ++ next ∷ [])
+chain_push : (line : Line) (lines : List Line) (next : Line) → IsChain line lines → MayStand (place_after_all (place_after line) lines) next → IsChain line (lines ++ next ∷ [])
 chain_push line [] next chain may = (follows_from_place line next may, tt)
 chain_push line (second ∷ lines) next chain may = (chain.0, chain_push second lines next chain.1 may)
 
@@ -38,7 +38,7 @@ pub order_push : (lines : List Line) (next : Line) → IsInOrder lines → MaySt
 order_push [] next order may = (may, tt)
 order_push (line ∷ lines) next order may = (order.0, chain_push line lines next order.1 may)
 
-chain_last : (line : Line) (lines : List Line) (next : Line) → IsChain line (lines ++ next ∷ []) → MayStand (behind_all (place_behind line) lines) next
+chain_last : (line : Line) (lines : List Line) (next : Line) → IsChain line (lines ++ next ∷ []) → MayStand (place_after_all (place_after line) lines) next
 chain_last line [] next chain = place_from_follows line next chain.0
 chain_last line (second ∷ lines) next chain = chain_last second lines next chain.1
 
@@ -72,7 +72,7 @@ is_start_not place.Start = true
 is_start_not _ = false
 
 -- at the end stands stop
-is_end : (line : Line) → place_behind line ≡ place.End → line ≡ stop
+is_end : (line : Line) → place_after line ≡ place.End → line ≡ stop
 is_end (reading time) e = cc e
 is_end (random word) e = cc e
 is_end (opening conn) e = cc e
@@ -81,7 +81,7 @@ is_end (head conn (byte ∷ text)) e = cc e
 is_end (ready conn) e = cc e
 is_end stop e = refl
 
-ends_behind : (line : Line) (lines : List Line) → behind_all (place_behind line) lines ≡ place.End → (front : List Line) × (line ∷ lines ≡ front ++ stop ∷ [])
+ends_behind : (line : Line) (lines : List Line) → place_after_all (place_after line) lines ≡ place.End → (front : List Line) × (line ∷ lines ≡ front ++ stop ∷ [])
 ends_behind line [] e = ([], ap (λ l. l ∷ []) (is_end line e))
 ends_behind line (second ∷ lines) e = let rest = ends_behind second lines e in (line ∷ rest.0, ap (λ ls. line ∷ ls) rest.1)
 
@@ -92,9 +92,9 @@ pub ends_with_stop : (lines : List Line) → place_of lines ≡ place.End → (f
 ends_with_stop [] e = absurd (start_is_not_end e)
 ends_with_stop (line ∷ lines) e = ends_behind line lines e
 
-fold-append_one : (p : Place) (lines : List Line) (line : Line) → behind_all p (lines ++ line ∷ []) ≡ place_behind line
+fold-append_one : (p : Place) (lines : List Line) (line : Line) → place_after_all p (lines ++ line ∷ []) ≡ place_after line
 fold-append_one p [] line = refl
-fold-append_one p (x ∷ lines) line = fold-append_one (place_behind x) lines line
+fold-append_one p (x ∷ lines) line = fold-append_one (place_after x) lines line
 
-pub place_of_push : (lines : List Line) (line : Line) → place_of (lines ++ line ∷ []) ≡ place_behind line
+pub place_of_push : (lines : List Line) (line : Line) → place_of (lines ++ line ∷ []) ≡ place_after line
 place_of_push lines line = fold-append_one place.Start lines line

@@ -1,4 +1,4 @@
--- The lines of a script, each with its one spelling, and which line may stand behind which.
+-- The lines of a script, each with its one spelling, and which line may stand after which.
 use Rattle.std.specs.Prelude.{◌≡◌, ◌≢◌, ℕ, ◌<◌, ◌^◌, List, [], ◌∷◌, ◌++◌, length, All, codes, decimal}
 use Rattle.b2_base.specs.Digits.{sixteen_digits}
 
@@ -64,7 +64,7 @@ abbrev pub IsStop : Line → Type 0
 IsStop stop = Unit {0}
 IsStop _ = ⊥
 
--- the second line may stand right behind the first
+-- the second line may stand right after the first
 abbrev pub Follows : Line → Line → Type 0
 Follows (reading time) next = IsWordOrOpening next
 Follows (random word) next = IsWordOrOpening next

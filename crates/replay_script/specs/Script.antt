@@ -19,7 +19,7 @@ IsChain line [] = Unit {0}
 IsChain line (next ∷ lines) = Follows line next × IsChain next lines
 
 -- at most one reading, then random words, one opening, the head's lines of that connection with the
--- empty line behind them, ready, and stop: or as many of these as there are
+-- empty line after them, ready, and stop: or as many of these as there are
 abbrev pub IsInOrder : List Line → Type 0
 IsInOrder [] = Unit {0}
 IsInOrder (line ∷ lines) = Begins line × IsChain line lines
@@ -50,7 +50,7 @@ abbrev pub ReadsScript : List ℕ → List Line → Type 0
 ReadsScript bytes lines = IsScript lines × (bytes ≡ text_of lines)
 
 -- The line of this number, counted from 1, is the first that is wrong: the lines before it begin a
--- script and aren't a whole one with nothing behind it, and no line at its place goes on with them.
+-- script and aren't a whole one with nothing after it, and no line at its place goes on with them.
 pub record IsFirstWrong (bytes : List ℕ) (number : ℕ) (before : List Line) (rest : List ℕ) : Type 0 where
   pub beginning : IsBeginning before
   pub bytes_are : bytes ≡ text_of before ++ rest
@@ -69,23 +69,23 @@ words_part _ = []
 abbrev pub words_of : List Line → List ℕ
 words_of lines = flat_map words_part lines
 
--- the clock's reading behind a line, from that before it
-abbrev pub reading_behind : ℕ → Line → ℕ
-reading_behind now (reading time) = time
-reading_behind now _ = now
+-- the clock's reading after a line, from that before it
+abbrev pub reading_after : ℕ → Line → ℕ
+reading_after now (reading time) = time
+reading_after now _ = now
 
 -- the clock's reading: 0 where no line gives one
 abbrev pub reading_of : List Line → ℕ
-reading_of lines = fold reading_behind 0 lines
+reading_of lines = fold reading_after 0 lines
 
--- the connection behind a line
-abbrev pub conn_behind : ℕ → Line → ℕ
-conn_behind now (opening conn) = conn
-conn_behind now _ = now
+-- the connection after a line
+abbrev pub conn_after : ℕ → Line → ℕ
+conn_after now (opening conn) = conn
+conn_after now _ = now
 
 -- the connection of the script: 0 before its opening
 abbrev pub conn_of : List Line → ℕ
-conn_of lines = fold conn_behind 0 lines
+conn_of lines = fold conn_after 0 lines
 
 -- the script says what its lines say
 pub record Says (script : Script) (lines : List Line) : Type 0 where

@@ -6,7 +6,10 @@ ghost use Rattle.replay_script.specs.Script.{ReadsScript, HasFirstWrong};
 
 /// No script has a wrong line, bytes have one first wrong line at most, and they are one list of lines.
 pub fn one_first_wrong_line()
-    ensures none { (bytes : List ℕ) (lines : List Line) (n : ℕ) → ReadsScript bytes lines → HasFirstWrong bytes n → ⊥ }
-    ensures first { (bytes : List ℕ) (m n : ℕ) → HasFirstWrong bytes m → HasFirstWrong bytes n → m ≡ n }
-    ensures lines { (bytes : List ℕ) (a b : List Line) → ReadsScript bytes a → ReadsScript bytes b → a ≡ b }
+    ensures none { (bytes : List ℕ) (lines : List Line) (n : ℕ) → ReadsScript bytes lines
+        → HasFirstWrong bytes n → ⊥ }
+    ensures first { (bytes : List ℕ) (m n : ℕ) → HasFirstWrong bytes m → HasFirstWrong bytes n
+        → m ≡ n }
+    ensures lines { (bytes : List ℕ) (a b : List Line) → ReadsScript bytes a
+        → ReadsScript bytes b → a ≡ b }
 {}

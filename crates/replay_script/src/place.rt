@@ -1,9 +1,9 @@
 //! Places between the lines of a script.
 
 ghost use Rattle.std.specs.Prelude.{◌≡◌, MatchOption};
-ghost use Rattle.replay_script.specs.Reading.{line_of, place_behind, MayStand};
+ghost use Rattle.replay_script.specs.Reading.{line_of, place_after, MayStand};
 
-use crate::line::Said;
+use crate::line::ScriptLine;
 
 /// Which line stands before.
 #[derive(Clone, Copy, Debug, PartialEq, Eq)]
@@ -24,30 +24,30 @@ pub enum Place {
 }
 
 impl Place {
-    /// The place behind the line, if the line may stand here.
-    pub fn behind(self, line: &Said) -> Option<Place>
+    /// The place after the line, if the line may stand here.
+    pub fn after(self, line: &ScriptLine) -> Option<Place>
         ensures { MatchOption result (¬ (MayStand self (line_of line.now)))
-            (λ next. MayStand self (line_of line.now) × (next ≡ place_behind (line_of line.now))) }
+            (λ next. MayStand self (line_of line.now) × (next ≡ place_after (line_of line.now))) }
     {
         match self {
             Place::Start => match line {
-                Said::Reading(_) | Said::Random(_) => Some(Place::Prelude),
-                Said::Opening(conn) => Some(Place::Opened(*conn)),
+                ScriptLine::Reading(_) | ScriptLine::Random(_) => Some(Place::Prelude),
+                ScriptLine::Opening(conn) => Some(Place::Opened(*conn)),
                 _ => None,
             },
             Place::Prelude => match line {
-                Said::Random(_) => Some(Place::Prelude),
-                Said::Opening(conn) => Some(Place::Opened(*conn)),
+                ScriptLine::Random(_) => Some(Place::Prelude),
+                ScriptLine::Opening(conn) => Some(Place::Opened(*conn)),
                 _ => None,
             },
             Place::Opened(opened) => match line {
-                Said::Head(conn, text) if *conn == opened && !text.is_empty() => {
+                ScriptLine::Head(conn, text) if *conn == opened && !text.is_empty() => {
                     Some(Place::Text(opened))
                 }
                 _ => None,
             },
             Place::Text(opened) => match line {
-                Said::Head(conn, text) if *conn == opened => Some(if text.is_empty() {
+                ScriptLine::Head(conn, text) if *conn == opened => Some(if text.is_empty() {
                     Place::Blank(opened)
                 } else {
                     Place::Text(opened)
@@ -55,11 +55,11 @@ impl Place {
                 _ => None,
             },
             Place::Blank(opened) => match line {
-                Said::Ready(conn) if *conn == opened => Some(Place::Ready(opened)),
+                ScriptLine::Ready(conn) if *conn == opened => Some(Place::Ready(opened)),
                 _ => None,
             },
             Place::Ready(_) => match line {
-                Said::Stop => Some(Place::End),
+                ScriptLine::Stop => Some(Place::End),
                 _ => None,
             },
             Place::End => None,

@@ -31,9 +31,11 @@ fn read_piece<S: Source>(
     requires { 0 < length piece.old }
     ensures cause { HasFaultCause (S.faults source.old) (S.faults source.new) result }
     // What the source gave so far is what the vector holds.
-    ensures taken { OnOk result ((first : Option (List ℕ)) → Consumes first (S.left source.old) bytes.old.items
+    ensures taken { OnOk result ((first : Option (List ℕ))
+        → Consumes first (S.left source.old) bytes.old.items
         → Consumes first (S.left source.new) bytes.new.items) }
-    ensures more { IfOk result (λ more. MatchBool more (vec_len bytes.old < vec_len bytes.new) (IsAtEnd (S.left source.new))) }
+    ensures more { IfOk result (λ more. MatchBool more
+        (vec_len bytes.old < vec_len bytes.new) (IsAtEnd (S.left source.new))) }
 {
     match source.read(piece) {
         Ok(0) => Ok(false),
@@ -65,9 +67,11 @@ fn read_bytes<S: Source>(alloc: Global, source: &mut S) -> Result<Vec<u8>, Or<Fa
 pub fn read_script<S: Source>(alloc: Global, source: &mut S) -> Result<Script, Or<ScriptFault>>
     ensures script { IfSome (S.left source.old) (λ bytes. GivesScript bytes result) }
     // No line of a script is wrong.
-    ensures whole { IfSome (S.left source.old) (λ bytes. (lines : List Line) → ReadsScript bytes lines → CallsNoLineWrong result) }
+    ensures whole { IfSome (S.left source.old) (λ bytes. (lines : List Line)
+        → ReadsScript bytes lines → CallsNoLineWrong result) }
     // Where one is, no other line is called so, and the bytes are not served.
-    ensures wrong { IfSome (S.left source.old) (λ bytes. (number : ℕ) → HasFirstWrong bytes number → CallsWrong number result) }
+    ensures wrong { IfSome (S.left source.old) (λ bytes. (number : ℕ)
+        → HasFirstWrong bytes number → CallsWrong number result) }
     ensures cause { HasSourceCause (S.faults source.old) (S.faults source.new) result }
 {
     let bytes = match read_bytes(alloc, source) {

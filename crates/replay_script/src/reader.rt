@@ -35,7 +35,7 @@ impl Reader {
         }
     }
 
-    // Whether the lines so far are a whole script, and nothing stands behind them.
+    // Whether the lines so far are a whole script, and nothing stands after them.
     fn is_done(&self, rest: &[u8]) -> bool
         ensures { IsTrue result ↔ ((rest.now ≡ []) × (self.now.place ≡ Place.End)) }
     {
@@ -47,14 +47,15 @@ impl Reader {
         requires clean { All (λ b. b ≢ 10) text.now }
         requires room { self.old.size + length text.now + 1 < 2 ^ 64 }
         ensures ok { OnOk result ((before : List Line) → Progress before self.old
-            → (line : Line) × (text.now ≡ line_text line) × Progress (before ++ line ∷ []) self.new) }
+            → (line : Line) × (text.now ≡ line_text line)
+            × Progress (before ++ line ∷ []) self.new) }
         ensures wrong { IfFault result (λ _. (before : List Line) → Progress before self.old
             → (line : Line) → text.now ≡ line_text line → IsBeginning (before ++ line ∷ []) → ⊥) }
     {
         let Some(line) = read_line(text) else {
             return Err(Or::Fault(WrongLine));
         };
-        let Some(place) = self.place.behind(&line) else {
+        let Some(place) = self.place.after(&line) else {
             return Err(Or::Fault(WrongLine));
         };
         let size = self.size + text.len() + 1;
@@ -76,7 +77,8 @@ pub struct BadLine {
 
 /// What the bytes of a script say, all of them.
 pub fn parse(alloc: Global, bytes: &[u8]) -> Result<Script, Or<BadLine>>
-    ensures script { IfOk result (λ s. (lines : List Line) × ReadsScript bytes.now lines × Says s lines) }
+    ensures script { IfOk result (λ s. (lines : List Line) × ReadsScript bytes.now lines
+        × Says s lines) }
     ensures wrong { IfFault result (λ bad. HasFirstWrong bytes.now bad.number) }
 {
     let mut reader = Reader::new(alloc);

@@ -6,7 +6,7 @@ ghost use Rattle.replay_script.specs.Reading.{line_of, AddsLine};
 ghost use Rattle.replay_script.specs.Script.{Says};
 ghost use Rattle.b2_base.specs.Failure.{IfFault};
 
-use crate::line::Said;
+use crate::line::ScriptLine;
 use b2_base::Or;
 use std::alloc::Global;
 
@@ -53,25 +53,28 @@ impl Script {
     }
 
     /// Adds what a line says.
-    pub(crate) fn add(&mut self, line: &Said) -> Result<(), Or<WrongLine>>
+    pub(crate) fn add(&mut self, line: &ScriptLine) -> Result<(), Or<WrongLine>>
         ensures ok { OnOk result (AddsLine (line_of line.now) self.old self.new) }
-        ensures wrong { IfFault result (λ _. 16384 < length self.old.head.items + length (head_part (line_of line.now))) }
+        ensures wrong { IfFault result (λ _.
+            16384 < length self.old.head.items + length (head_part (line_of line.now))) }
     {
         match line {
-            Said::Reading(time) => self.reading = *time,
-            Said::Random(word) => self.words.push(*word)?,
-            Said::Opening(conn) => self.conn = *conn,
-            Said::Head(_, text) => self.add_head(text)?,
-            Said::Ready(_) | Said::Stop => {}
+            ScriptLine::Reading(time) => self.reading = *time,
+            ScriptLine::Random(word) => self.words.push(*word)?,
+            ScriptLine::Opening(conn) => self.conn = *conn,
+            ScriptLine::Head(_, text) => self.add_head(text)?,
+            ScriptLine::Ready(_) | ScriptLine::Stop => {}
         }
         Ok(())
     }
 
     fn add_head(&mut self, text: &[u8]) -> Result<(), Or<WrongLine>>
         ensures ok { OnOk result (self.new ≡ record self.old { head = self.new.head }) }
-        ensures head { OnOk result (self.new.head.items ≡ self.old.head.items ++ (text.now ++ 13 ∷ 10 ∷ [])) }
+        ensures head { OnOk result (self.new.head.items ≡ self.old.head.items
+            ++ (text.now ++ 13 ∷ 10 ∷ [])) }
         ensures room { OnOk result (length self.new.head.items ≤ 16384) }
-        ensures wrong { IfFault result (λ _. 16384 < length self.old.head.items + (length text.now + 2)) }
+        ensures wrong { IfFault result (λ _. 16384
+            < length self.old.head.items + (length text.now + 2)) }
     {
         let size = self.head.len().saturating_add(text.len()).saturating_add(2);
         if size > MOST_HEAD {

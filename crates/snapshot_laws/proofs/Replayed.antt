@@ -12,7 +12,7 @@ use Rattle.b2_types.specs.declared.record.ChangeOf.{ChangeOf}
 use Rattle.b2_types.specs.declared.record.ChangeOf.TheVariants as change
 use Rattle.b2_model.specs.State.{State, bucket_at, key_at}
 use Rattle.b2_model.specs.Policy.{is_same_name}
-use Rattle.b2_model.specs.LifecycleRules.{are_rules}
+use Rattle.b2_types.specs.LifecycleRules.{are_rules}
 use Rattle.b2_model.specs.Plan.{number_end}
 use Rattle.b2_model.specs.Changes.{after_record}
 use Rattle.b2_model.specs.Stored.{is_number, may_be, applies_change, is_snap_state, Replayed, replay_one, replay_on, record_at}

@@ -9,5 +9,6 @@ ghost use Rattle.sound_states.specs.Sound.{IsSound};
 /// A snapshot of the stored part of a sound state replays as that stored part.
 #[tactic(auto)]
 pub fn snapshots_replay<C>()
-    ensures { (M : State C) → IsSound M → replay (snapshot (stored_part M)) ≡ Some (stored_part M) }
+    ensures { (M : State C) → IsSound M →
+        replay (snapshot (stored_part M)) ≡ Some (stored_part M) }
 {}

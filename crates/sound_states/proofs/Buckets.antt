@@ -7,7 +7,7 @@ use Rattle.std.proofs.lemmas.List.Kept.{AllPairs-filter}
 use Rattle.b2_types.specs.declared.bucket.Bucket.{Bucket}
 use Rattle.b2_model.specs.Lists.{put_by}
 use Rattle.b2_model.specs.Policy.{is_same_name}
-use Rattle.b2_model.specs.LifecycleRules.{are_rules}
+use Rattle.b2_types.specs.LifecycleRules.{are_rules}
 use Rattle.b2_model.specs.Plan.{number_end}
 use Rattle.sound_states.specs.Sound.{IsGiven, AreBuckets}
 use Rattle.sound_states.proofs.Ascending.{put_all, put_ascends, put_pairs, map_ascends, map_pairs, not_among, all_from, all_from_both}

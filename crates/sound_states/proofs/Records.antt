@@ -20,7 +20,7 @@ use Rattle.b2_types.specs.declared.version.VersionOf.{VersionOf}
 use Rattle.b2_model.specs.Kinds.{is_upload, is_start}
 use Rattle.b2_model.specs.State.{State, bucket_at, key_at}
 use Rattle.b2_model.specs.Lists.{put_by}
-use Rattle.b2_model.specs.LifecycleRules.{are_rules}
+use Rattle.b2_types.specs.LifecycleRules.{are_rules}
 use Rattle.b2_model.specs.Plan.{number_end}
 use Rattle.b2_model.specs.Version.{no_digest, marker, version_from, is_it, with_part}
 use Rattle.b2_model.specs.Finish.{finished_file}

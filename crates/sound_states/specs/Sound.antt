@@ -13,7 +13,7 @@ use Rattle.b2_types.specs.declared.record.ChangeOf.{ChangeOf}
 use Rattle.b2_types.specs.declared.record.ChangeOf.TheVariants as change
 use Rattle.b2_model.specs.State.{State}
 use Rattle.b2_model.specs.Policy.{is_same_name}
-use Rattle.b2_model.specs.LifecycleRules.{are_rules}
+use Rattle.b2_types.specs.LifecycleRules.{are_rules}
 use Rattle.b2_model.specs.Plan.{number_end}
 use Rattle.b2_model.specs.Version.{no_digest, marker}
 use Rattle.b2_model.specs.Changes.{master_key}

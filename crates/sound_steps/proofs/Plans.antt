@@ -31,7 +31,7 @@ use Rattle.b2_model.specs.State.{State, Pieces, bucket_at, key_at}
 use Rattle.b2_model.specs.Rows.{version_at}
 use Rattle.b2_model.specs.Current.{current as newest}
 use Rattle.b2_model.specs.Policy.{is_same_name, key_by, bucket_named}
-use Rattle.b2_model.specs.LifecycleRules.{are_rules}
+use Rattle.b2_types.specs.LifecycleRules.{are_rules}
 use Rattle.b2_model.specs.Stored.{stands, may_make, may_be, is_number, applies_change}
 use Rattle.b2_model.specs.Plan.{Plan, or_absent, id_of}
 use Rattle.b2_model.specs.AskBuckets.{create_bucket, update_bucket, updated_bucket, new_bucket}

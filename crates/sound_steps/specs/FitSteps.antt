@@ -4,7 +4,7 @@ use Rattle.b2_types.specs.declared.call.Call.{Call}
 use Rattle.b2_types.specs.declared.call.Call.TheVariants as call
 use Rattle.b2_types.specs.declared.record.ChangeOf.{ChangeOf}
 use Rattle.b2_model.specs.State.{State}
-use Rattle.b2_model.specs.LifecycleRules.{are_rules}
+use Rattle.b2_types.specs.LifecycleRules.{are_rules}
 use Rattle.b2_model.specs.Stored.{applies_change}
 use Rattle.b2_model.specs.Run.{Step, asks}
 use Rattle.sound_states.specs.Sound.{IsFitChange}

@@ -3,7 +3,7 @@
 ghost use Rattle.std.specs.Prelude.{◌≡◌, [], ◌∷◌, Some, true, false, codes, map};
 ghost use Rattle.rule_table.specs.declared.fault.FaultKind.TheVariants.{NoFile, P11};
 ghost use Rattle.b2_types.specs.Fault.{plain};
-ghost use Rattle.b2_model.specs.LifecycleRules.{are_rules};
+ghost use Rattle.b2_types.specs.LifecycleRules.{are_rules};
 ghost use Rattle.b2_model.specs.Version.{marker};
 ghost use Rattle.worked_rows.specs.Store.{refusal, upload_at, start_at};
 ghost use Rattle.worked_cases.specs.Deletions.{buckets_after, lock_store, delete_named, version_numbers, hold_on, hold_off, rule_for};

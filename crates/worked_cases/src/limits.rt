@@ -12,7 +12,8 @@ pub fn other_buckets()
     ensures absent { by_key false (names_of 2) ≡ Some (plain P9) }
     ensures own_name { by_key true (get (codes "photos-1") (codes "logs/a")) ≡ None }
     ensures name_stands { by_key true (get (codes "photos-2") (codes "logs/a")) ≡ Some (plain P9) }
-    ensures name_absent { by_key false (get (codes "photos-2") (codes "logs/a")) ≡ Some (plain P9) }
+    ensures name_absent { by_key false (get (codes "photos-2") (codes "logs/a"))
+        ≡ Some (plain P9) }
 {}
 
 /// So it is for a download token.

@@ -1,6 +1,6 @@
 use Rattle.std.proofs.Common.{◌≡◌, take}
 use Rattle.std.specs.List.{list_any}
-use Rattle.field_kinds.specs.Rules.{overlap}
+use Rattle.b2_types.specs.LifecycleRules.{overlap}
 use Rattle.field_kinds.proofs.rules.overlaps_any.Given as goal
 
 abbrev pub invariant-loop-other : goal.invariant-loop-other

@@ -5,9 +5,9 @@ use Rattle.replay_script.specs.Reading.{line_of}
 use Rattle.replay_script.proofs.Lines.{wrong_place, wrong_head, goes_on}
 use Rattle.replay_script.proofs.reader.Reader.take.Goals as goal
 
-pub returns-in_default-behind-clause-wrong : goal.returns-in_default-behind-clause-wrong
-returns-in_default-behind-clause-wrong c = λ before so_far line is beginning.
-    wrong_place before c.args.self.now (line_of c.in-Some.line) so_far c.in-Some.ensures.0 c.in_default-behind.ensures line (sym c.in-Some.ensures.1 ∙ is) beginning
+pub returns-in_default-after-clause-wrong : goal.returns-in_default-after-clause-wrong
+returns-in_default-after-clause-wrong c = λ before so_far line is beginning.
+    wrong_place before c.args.self.now (line_of c.in-Some.line) so_far c.in-Some.ensures.0 c.in_default-after.ensures line (sym c.in-Some.ensures.1 ∙ is) beginning
 
 pub returns-in_err-add-clause-wrong : goal.returns-in_err-add-clause-wrong
 returns-in_err-add-clause-wrong c =
@@ -22,6 +22,6 @@ returns-clause-ok c = λ before so_far.
     let said = line_of c.in-Some.line in (
       said,
       c.in-Some.ensures.1,
-      goes_on before c.args.self.now said c.add.new.self c.args.text.now c.in-Some-behind.place so_far c.in-Some.ensures.0 c.in-Some.ensures.1
-          c.in-Some-behind.ensures.0 c.in-Some-behind.ensures.1 c.in_ok-add.ensures.ok (omega arith),
+      goes_on before c.args.self.now said c.add.new.self c.args.text.now c.in-Some-after.place so_far c.in-Some.ensures.0 c.in-Some.ensures.1
+          c.in-Some-after.ensures.0 c.in-Some-after.ensures.1 c.in_ok-add.ensures.ok (omega arith),
     )
