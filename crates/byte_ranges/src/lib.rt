@@ -4,3 +4,6 @@
 mod read;
 
 pub use read::read_range;
+
+#[cfg(test)]
+mod tests;

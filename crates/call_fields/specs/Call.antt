@@ -14,7 +14,8 @@ use Rattle.b2_types.specs.Fault.{plain}
 use Rattle.field_kinds.specs.Reader.{Reader}
 use Rattle.call_fields.specs.Buckets.{delete_bucket, list_buckets}
 use Rattle.call_fields.specs.Files.{get_upload_url, file_call, hide_file, delete_version, authorize_download, update_hold, update_retention}
-use Rattle.call_fields.specs.Keys.{delete_key, list_keys}
+use Rattle.key_fields.specs.Keys.{create_key, delete_key, list_keys}
+use Rattle.copy_fields.specs.Copies.{copy_file, copy_part}
 use Rattle.field_kinds.specs.Info.{Pairs}
 use Rattle.call_fields.specs.Information.{IsInfoOf}
 use Rattle.call_fields.specs.Made.{create_bucket, update_bucket, start_large_file}
@@ -31,6 +32,7 @@ fields calls.CreateBucket version info d = made call.CreateBucket (create_bucket
 fields calls.UpdateBucket version info d = made call.UpdateBucket (update_bucket info d)
 fields calls.DeleteBucket version info d = made call.DeleteBucket (delete_bucket d)
 fields calls.ListBuckets version info d = made call.ListBuckets (list_buckets d)
+fields calls.CreateKey version info d = made call.CreateKey (create_key version d)
 fields calls.DeleteKey version info d = made call.DeleteKey (delete_key version d)
 fields calls.ListKeys version info d = made call.ListKeys (list_keys version d)
 fields calls.GetUploadUrl version info d = made call.GetUploadUrl (get_upload_url d)
@@ -48,6 +50,8 @@ fields calls.DeleteFileVersion version info d = made call.DeleteFileVersion (del
 fields calls.GetDownloadAuthorization version info d = made call.GetDownloadAuthorization (authorize_download d)
 fields calls.UpdateFileRetention version info d = made call.UpdateFileRetention (update_retention d)
 fields calls.UpdateFileLegalHold version info d = made call.UpdateFileLegalHold (update_hold d)
+fields calls.CopyFile version info d = made call.CopyFile (copy_file info d)
+fields calls.CopyPart version info d = made call.CopyPart (copy_part d)
 fields other version info d = Err (plain faults.NoCall)
 
 -- the call, or one that is bad with this fault

@@ -2,6 +2,5 @@ pub mod Information
 pub mod Buckets
 pub mod Files
 pub mod Listings
-pub mod Keys
 pub mod Made
 pub mod Call

@@ -1,17 +1,16 @@
 -- The fields of the calls that give information about a bucket or a file, in the order in which they are
 -- judged (the B2 reference). The information is read before, and judged in its place.
-use Rattle.std.specs.Prelude.{ℕ, List, codes, Option, Some, None, Result, Ok, Err}
+use Rattle.std.specs.Prelude.{codes, Option}
 use Rattle.json_shape.specs.Fields.{number_within}
-use Rattle.b2_types.specs.declared.fault.Fault.{Fault}
-use Rattle.b2_types.specs.declared.kinds.Retention.{Retention}
 use Rattle.b2_types.specs.declared.call.CreateBucket.{CreateBucket}
 use Rattle.b2_types.specs.declared.call.StartCall.{StartCall}
 use Rattle.b2_types.specs.declared.call.UpdateBucket.{UpdateBucket}
 use Rattle.field_kinds.specs.declared.texts.TextRule.TheVariants as rule
 use Rattle.field_kinds.specs.Reader.{Reader, fields_of, ◌with◌, needed, optional}
-use Rattle.field_kinds.specs.Kinds.{text, text_by, flag, bucket_id, bucket_name, bucket_type, file_name, hold, retention}
+use Rattle.field_kinds.specs.Kinds.{text, text_by, flag, bucket_id, bucket_name, bucket_type, file_name, hold}
 use Rattle.field_kinds.specs.Rules.{rules, default_retention}
 use Rattle.field_kinds.specs.Offered.{idle, is_null, is_no_list, is_no_encryption}
+use Rattle.field_kinds.specs.Kept.{kept}
 use Rattle.field_kinds.specs.Info.{Pairs}
 
 abbrev pub create_bucket : Option Pairs → Reader CreateBucket
@@ -41,15 +40,6 @@ update_bucket info = fields_of (λ account bucket public given kept lock rs revi
     with idle (codes "corsRules") is_no_list
     with idle (codes "defaultServerSideEncryption") is_no_encryption
     with idle (codes "replicationConfiguration") is_null
-
-abbrev pub joined : Result (Option (Option Retention)) Fault → Result (Option Retention) Fault
-joined (Err f) = Err f
-joined (Ok None) = Ok None
-joined (Ok (Some r)) = Ok r
-
--- a retention that may be absent, which is none
-unfoldable pub kept : List ℕ → Reader (Option Retention)
-kept key d = joined (optional key retention d)
 
 abbrev pub start_fields : Option Pairs → Reader StartCall
 start_fields info = fields_of (λ bucket name kind given r on.

@@ -1,15 +1,12 @@
 //! Calls whose body is an object of JSON.
 
-ghost use Rattle.std.specs.Prelude.{◌≡◌, ℕ, List, Option, None, Err, IfOk};
-ghost use Rattle.serde_json.specs.Data.{Data};
+ghost use Rattle.std.specs.Prelude.{◌≡◌, ℕ, List, Err, IfOk};
 ghost use Rattle.serde_json.specs.View.{view};
 ghost use Rattle.json_shape.specs.Fields.{Gives};
 ghost use Rattle.json_shape.specs.Object.{ReadsObject};
 ghost use Rattle.rule_table.specs.declared.call.CallName.{CallName as TheName};
 ghost use Rattle.b2_types.specs.declared.kinds.ApiVersion.{ApiVersion as TheVersion};
 ghost use Rattle.b2_types.specs.declared.call.Call.{Call as TheCall};
-ghost use Rattle.field_kinds.specs.Info.{Pairs};
-ghost use Rattle.call_fields.specs.Information.{IsInfoOf};
 ghost use Rattle.call_fields.specs.Call.{fields, or_bad, IsCallOf, IsCall};
 
 use crate::buckets::{delete_bucket, list_buckets};
@@ -18,12 +15,13 @@ use crate::files::{
     update_retention,
 };
 use crate::information::info_given;
-use crate::keys::{delete_key, list_keys};
 use crate::listings::{finish, list_names, list_parts, list_unfinished, list_versions};
 use crate::made::{create_bucket, start_large_file, update_bucket};
 use b2_base::{Memory, Or};
 use b2_types::{ApiVersion, BadCall, Call, Fault, Target};
+use copy_fields::{copy_file, copy_part};
 use json_shape::object;
+use key_fields::{create_key, delete_key, list_keys};
 use name_rules::InfoPairs;
 use rule_table::{CallName, FaultKind};
 use serde_json::Value;
@@ -43,6 +41,7 @@ fn fields(
         CallName::UpdateBucket => Ok(Call::UpdateBucket(update_bucket(alloc, body, info)?)),
         CallName::DeleteBucket => Ok(Call::DeleteBucket(delete_bucket(alloc, body)?)),
         CallName::ListBuckets => Ok(Call::ListBuckets(list_buckets(alloc, body)?)),
+        CallName::CreateKey => Ok(Call::CreateKey(create_key(alloc, version, body)?)),
         CallName::DeleteKey => Ok(Call::DeleteKey(delete_key(alloc, version, body)?)),
         CallName::ListKeys => Ok(Call::ListKeys(list_keys(alloc, version, body)?)),
         CallName::GetUploadUrl => Ok(Call::GetUploadUrl(get_upload_url(alloc, body)?)),
@@ -66,6 +65,8 @@ fn fields(
             Ok(Call::UpdateFileRetention(update_retention(alloc, body)?))
         }
         CallName::UpdateFileLegalHold => Ok(Call::UpdateFileLegalHold(update_hold(alloc, body)?)),
+        CallName::CopyFile => Ok(Call::CopyFile(copy_file(alloc, body, info)?)),
+        CallName::CopyPart => Ok(Call::CopyPart(copy_part(alloc, body)?)),
         _ => Err(Or::Fault(Fault::plain(FaultKind::NoCall))),
     }
 }
@@ -117,10 +118,9 @@ pub fn read_call(
     }
 }
 
-/// A body is one call, where the call gives no information.
+/// A body is one call: the table of its name gives one call, or one fault.
 #[tactic(auto, using(crate::proofs::Once::one_call))]
 pub fn one_call()
     ensures { (name : TheName) (version : TheVersion) (body : List ℕ) (a b : TheCall)
-        → ((d : Data) (info : Option Pairs) → IsInfoOf name d info → info ≡ None)
         → IsCall name version body a → IsCall name version body b → a ≡ b }
 {}

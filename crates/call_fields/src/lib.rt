@@ -5,7 +5,6 @@ mod buckets;
 mod call;
 mod files;
 mod information;
-mod keys;
 mod listings;
 mod made;
 

@@ -2,13 +2,13 @@
 
 ghost use Rattle.serde_json.specs.View.{view};
 ghost use Rattle.json_shape.specs.Fields.{Gives};
-ghost use Rattle.call_fields.specs.Made.{create_bucket, update_bucket, kept, start_fields, start_large_file};
+ghost use Rattle.call_fields.specs.Made.{create_bucket, update_bucket, start_fields, start_large_file};
 
 use b2_base::Or;
-use b2_types::{CreateBucket, Fault, Retention, StartCall, UpdateBucket};
+use b2_types::{CreateBucket, Fault, StartCall, UpdateBucket};
 use field_kinds::{
     TextRule, idle_encryption, idle_list, idle_value, needed, needed_choice, needed_text, optional,
-    optional_choice, optional_info, optional_number, optional_rules,
+    optional_choice, optional_info, optional_number, optional_retention, optional_rules,
 };
 use name_rules::InfoPairs;
 use serde_json::Value;
@@ -70,18 +70,6 @@ pub(crate) fn update_bucket(
     })
 }
 
-// A retention that may be absent, which is none.
-#[tactic(auto, unfolding(crate::specs::Made::kept))]
-fn optional_kept(alloc: Global, body: &Value, key: &str) -> Result<Option<Retention>, Or<Fault>>
-    ensures { Gives (λ x. x) result (kept key.now (view body.now)) }
-{
-    let found: Option<Option<Retention>> = optional(alloc, body, key)?;
-    match found {
-        Some(retention) => Ok(retention),
-        None => Ok(None),
-    }
-}
-
 fn start_fields(
     alloc: Global,
     body: &Value,
@@ -93,7 +81,7 @@ fn start_fields(
     let name = needed(alloc, body, "fileName")?;
     let kind = needed_text(alloc, body, "contentType", TextRule::ContentType)?;
     let info = optional_info(alloc, body, "fileInfo", info)?;
-    let retention = optional_kept(alloc, body, "fileRetention")?;
+    let retention = optional_retention(alloc, body, "fileRetention")?;
     let hold = optional_choice(alloc, body, "legalHold", "on", "off")?;
     Ok(StartCall {
         bucket,

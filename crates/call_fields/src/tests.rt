@@ -15,9 +15,18 @@ fn message(alloc: Global, call: Call) -> Result<Text, Memory> {
     }
 }
 
-fn told(alloc: Global, name: CallName, body: &str) -> Result<Text, Memory> {
-    let call = read_call(alloc, name, ApiVersion::V3, body.as_bytes())?;
+fn told_under(
+    alloc: Global,
+    name: CallName,
+    version: ApiVersion,
+    body: &str,
+) -> Result<Text, Memory> {
+    let call = read_call(alloc, name, version, body.as_bytes())?;
     message(alloc, call)
+}
+
+fn told(alloc: Global, name: CallName, body: &str) -> Result<Text, Memory> {
+    told_under(alloc, name, ApiVersion::V3, body)
 }
 
 #[test]
@@ -236,6 +245,278 @@ fn information(rt: HostRuntime) -> Result<(), Fail> {
         let comma = if more.is_empty() { "" } else { "," };
         let body = format!(in alloc; "{front}{comma}{more}}}")?;
         let found = told(alloc, CallName::CreateBucket, body.as_str())?;
+        assert_eq!(rt; found.get(), fault);
+    }
+    Ok(())
+}
+
+fn told_after(
+    alloc: Global,
+    name: CallName,
+    version: ApiVersion,
+    front: &str,
+    more: &str,
+) -> Result<Text, Memory> {
+    let body = format!(in alloc; "{front},{more}}}")?;
+    told_under(alloc, name, version, body.as_str())
+}
+
+#[test]
+fn keys(rt: HostRuntime) -> Result<(), Fail> {
+    let alloc = rt.alloc();
+    let account = "{\"accountId\":\"a\"";
+    let well = "{\"accountId\":\"a\",\"capabilities\":[\"listFiles\"],\"keyName\":\"k\"";
+    let rows: [(ApiVersion, &str, &str, &str); 23] = [
+        (
+            ApiVersion::V3,
+            account,
+            "\"capabilities\":[\"bypassGovernance\",\"listFiles\"],\"keyName\":\"k\"",
+            "",
+        ),
+        (
+            ApiVersion::V3,
+            account,
+            "\"keyName\":\"k\"",
+            "missing field: capabilities",
+        ),
+        (
+            ApiVersion::V3,
+            account,
+            "\"capabilities\":null",
+            "missing field: capabilities",
+        ),
+        (
+            ApiVersion::V3,
+            account,
+            "\"capabilities\":\"listFiles\"",
+            "bad field: capabilities",
+        ),
+        (
+            ApiVersion::V3,
+            account,
+            "\"capabilities\":[]",
+            "bad field: capabilities",
+        ),
+        (
+            ApiVersion::V3,
+            account,
+            "\"capabilities\":[\"listfiles\"]",
+            "bad field: capabilities",
+        ),
+        (
+            ApiVersion::V3,
+            account,
+            "\"capabilities\":[\"listFiles\",\"readFiles\",\"listFiles\"]",
+            "bad field: capabilities",
+        ),
+        (
+            ApiVersion::V3,
+            account,
+            "\"capabilities\":[\"listFiles\"]",
+            "missing field: keyName",
+        ),
+        (
+            ApiVersion::V3,
+            account,
+            "\"capabilities\":[\"listFiles\"],\"keyName\":\"a_b\"",
+            "bad field: keyName",
+        ),
+        (
+            ApiVersion::V3,
+            well,
+            "\"validDurationInSeconds\":86399999",
+            "",
+        ),
+        (
+            ApiVersion::V3,
+            well,
+            "\"validDurationInSeconds\":86400000,\"bucketId\":1",
+            "bad field: validDurationInSeconds",
+        ),
+        (
+            ApiVersion::V3,
+            well,
+            "\"validDurationInSeconds\":0",
+            "bad field: validDurationInSeconds",
+        ),
+        (
+            ApiVersion::V3,
+            well,
+            "\"bucketId\":\"000000000000000000000001\",\"namePrefix\":\"\"",
+            "",
+        ),
+        (
+            ApiVersion::V3,
+            well,
+            "\"bucketId\":\"1\",\"namePrefix\":1",
+            "bad field: bucketId",
+        ),
+        (
+            ApiVersion::V3,
+            well,
+            "\"bucketId\":\"000000000000000000000001\",\"namePrefix\":1",
+            "bad field: namePrefix",
+        ),
+        (
+            ApiVersion::V3,
+            well,
+            "\"bucketId\":null,\"namePrefix\":\"a\"",
+            "bad field: namePrefix",
+        ),
+        (ApiVersion::V3, well, "\"bucketIds\":7", ""),
+        (ApiVersion::V4, well, "\"bucketId\":7", ""),
+        (
+            ApiVersion::V4,
+            well,
+            "\"bucketIds\":[\"000000000000000000000002\",\"000000000000000000000001\"],\"namePrefix\":\"a\"",
+            "",
+        ),
+        (
+            ApiVersion::V4,
+            well,
+            "\"bucketIds\":[\"000000000000000000000002\",\"000000000000000000000002\"]",
+            "bad field: bucketIds",
+        ),
+        (
+            ApiVersion::V4,
+            well,
+            "\"bucketIds\":[]",
+            "bad field: bucketIds",
+        ),
+        (
+            ApiVersion::V4,
+            well,
+            "\"bucketIds\":[\"000000000000000000000001\",\"000000000000000000000002\",\"000000000000000000000003\",\"000000000000000000000004\",\"000000000000000000000005\",\"000000000000000000000006\",\"000000000000000000000007\",\"000000000000000000000008\",\"000000000000000000000009\",\"00000000000000000000000a\",\"00000000000000000000000b\",\"00000000000000000000000c\",\"00000000000000000000000d\",\"00000000000000000000000e\",\"00000000000000000000000f\",\"000000000000000000000010\",\"000000000000000000000011\"]",
+            "bad field: bucketIds",
+        ),
+        (
+            ApiVersion::V4,
+            well,
+            "\"bucketId\":\"000000000000000000000001\",\"namePrefix\":\"a\"",
+            "bad field: namePrefix",
+        ),
+    ];
+    for (version, front, more, fault) in rows {
+        let found = told_after(alloc, CallName::CreateKey, version, front, more)?;
+        assert_eq!(rt; found.get(), fault);
+    }
+    Ok(())
+}
+
+#[test]
+fn copies(rt: HostRuntime) -> Result<(), Fail> {
+    let alloc = rt.alloc();
+    let source = "{\"sourceFileId\":\"4_z00000001_f0000000000000001\"";
+    let rows: [(CallName, &str, &str); 22] = [
+        (CallName::CopyFile, "\"fileName\":\"b.txt\"", ""),
+        (
+            CallName::CopyFile,
+            "\"fileName\":\"b.txt\",\"range\":\"bytes=1-1\",\"contentType\":null",
+            "",
+        ),
+        (
+            CallName::CopyFile,
+            "\"destinationBucketId\":\"2\",\"fileName\":\"\"",
+            "bad field: destinationBucketId",
+        ),
+        (
+            CallName::CopyFile,
+            "\"destinationBucketId\":\"000000000000000000000002\"",
+            "missing field: fileName",
+        ),
+        (
+            CallName::CopyFile,
+            "\"fileName\":\"b\",\"range\":\"bytes=2-1\"",
+            "bad field: range",
+        ),
+        (
+            CallName::CopyFile,
+            "\"fileName\":\"b\",\"range\":\"1-2\"",
+            "bad field: range",
+        ),
+        (
+            CallName::CopyFile,
+            "\"fileName\":\"b\",\"range\":7,\"metadataDirective\":7",
+            "bad field: range",
+        ),
+        (
+            CallName::CopyFile,
+            "\"fileName\":\"b\",\"metadataDirective\":\"copy\"",
+            "bad field: metadataDirective",
+        ),
+        (
+            CallName::CopyFile,
+            "\"fileName\":\"b\",\"metadataDirective\":\"COPY\",\"contentType\":\"text/plain\"",
+            "bad field: contentType",
+        ),
+        (
+            CallName::CopyFile,
+            "\"fileName\":\"b\",\"fileInfo\":{}",
+            "bad field: fileInfo",
+        ),
+        (
+            CallName::CopyFile,
+            "\"fileName\":\"b\",\"metadataDirective\":\"REPLACE\"",
+            "missing field: contentType",
+        ),
+        (
+            CallName::CopyFile,
+            "\"fileName\":\"b\",\"metadataDirective\":\"REPLACE\",\"contentType\":\"b2/x-auto\"",
+            "",
+        ),
+        (
+            CallName::CopyFile,
+            "\"fileName\":\"b\",\"metadataDirective\":\"REPLACE\",\"contentType\":\"a/b\",\"fileInfo\":{\"A\":\"b\"},\"legalHold\":\"on\"",
+            "",
+        ),
+        (
+            CallName::CopyFile,
+            "\"fileName\":\"b\",\"metadataDirective\":\"REPLACE\",\"contentType\":\"a/b\",\"fileInfo\":{\"a b\":\"c\"}",
+            "bad field: fileInfo",
+        ),
+        (
+            CallName::CopyFile,
+            "\"fileName\":\"b\",\"fileRetention\":{\"mode\":\"governance\"},\"legalHold\":1",
+            "bad field: fileRetention",
+        ),
+        (
+            CallName::CopyFile,
+            "\"fileName\":\"b\",\"fileRetention\":{\"mode\":\"none\"},\"legalHold\":1",
+            "bad field: legalHold",
+        ),
+        (
+            CallName::CopyPart,
+            "\"partNumber\":1",
+            "missing field: largeFileId",
+        ),
+        (
+            CallName::CopyPart,
+            "\"largeFileId\":\"4_z00000002_f0000000000000002\",\"partNumber\":0",
+            "bad field: partNumber",
+        ),
+        (
+            CallName::CopyPart,
+            "\"largeFileId\":\"4_z00000002_f0000000000000002\",\"partNumber\":10000",
+            "",
+        ),
+        (
+            CallName::CopyPart,
+            "\"largeFileId\":\"4_z00000002_f0000000000000002\",\"partNumber\":10001",
+            "bad field: partNumber",
+        ),
+        (
+            CallName::CopyPart,
+            "\"largeFileId\":\"4_z00000002_f0000000000000002\",\"partNumber\":1,\"range\":\"bytes=-\"",
+            "bad field: range",
+        ),
+        (
+            CallName::CopyPart,
+            "\"largeFileId\":\"4_z00000002_f0000000000000002\",\"partNumber\":1,\"range\":\"bytes=-5\"",
+            "",
+        ),
+    ];
+    for (name, more, fault) in rows {
+        let found = told_after(alloc, name, ApiVersion::V3, source, more)?;
         assert_eq!(rt; found.get(), fault);
     }
     Ok(())

@@ -1,13 +1,18 @@
-//! Tokens in headers and queries.
+//! Tokens in headers and queries, and downloads.
 
-use crate::{download_token, first_param, token_of};
-use b2_base::Text;
+use crate::{download_by_id, download_token, first_param, token_of};
+use b2_base::{Memory, Text};
+use b2_types::{Call, message_of};
 use http_header::{HeaderMap, HeaderName, HeaderValue};
 use std::alloc::Global;
 use std::test::Fail;
 use wire_forms::Request;
 
 fn request(alloc: Global, query: &str, tokens: &[&[u8]]) -> Result<Request, Fail> {
+    request_to(alloc, "/file/bucket/name", query, tokens)
+}
+
+fn request_to(alloc: Global, path: &str, query: &str, tokens: &[&[u8]]) -> Result<Request, Fail> {
     let mut headers = HeaderMap::new(alloc);
     for token in tokens {
         let name = HeaderName::from_bytes(alloc, b"authorization")
@@ -18,7 +23,7 @@ fn request(alloc: Global, query: &str, tokens: &[&[u8]]) -> Result<Request, Fail
     }
     Ok(Request {
         method: Text::copy(alloc, "GET")?,
-        path: Text::copy(alloc, "/file/bucket/name")?,
+        path: Text::copy(alloc, path)?,
         query: Text::copy(alloc, query)?,
         headers,
         length: 0,
@@ -60,5 +65,37 @@ fn parameters(rt: HostRuntime) -> Result<(), Fail> {
         assert_eq!(rt; found.get(), value);
     }
     assert!(rt; first_param(alloc, b"fileid=1", "fileId")?.is_none());
+    Ok(())
+}
+
+// The message of a bad call's fault; empty for a call.
+fn message(alloc: Global, call: Call) -> Result<Text, Memory> {
+    match call {
+        Call::Bad(bad) => message_of(alloc, &bad.fault),
+        _ => Text::copy(alloc, ""),
+    }
+}
+
+#[test]
+fn downloads_by_id(rt: HostRuntime) -> Result<(), Fail> {
+    let alloc = rt.alloc();
+    let rows: [(&str, &str); 5] = [
+        ("", "missing field: fileId"),
+        (
+            "fileid=4_z00000001_f0000000000000001",
+            "missing field: fileId",
+        ),
+        ("fileId=4_z00000001_f0000000000000001", ""),
+        ("a=b&fileId=4%5Fz00000001%5Ff0000000000000001&fileId=", ""),
+        (
+            "fileId=&fileId=4_z00000001_f0000000000000001",
+            "bad field: fileId",
+        ),
+    ];
+    for (query, fault) in rows {
+        let request = request(alloc, query, &[])?;
+        let call = download_by_id(alloc, &request)?;
+        assert_eq!(rt; message(alloc, call)?.get(), fault);
+    }
     Ok(())
 }
