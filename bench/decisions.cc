@@ -50,7 +50,7 @@ static Store store_of(uint32_t tokens) {
     }
     for (uint32_t token = 0; token < tokens; token++) {
         char text[128];
-        std::snprintf(text, sizeof text, "3_00000001_%016llx_%016llx%016llx", (unsigned long long)token + 1, 0ULL, 0ULL);
+        std::snprintf(text, sizeof text, "3_00000001_%016llx_%016llx_%016llx", (unsigned long long)token + 1, 0ULL, 0ULL);
         store.grants.emplace(text, Grant{Kind::Account, keys ? token % keys + 1 : 1, 0, 0, "", DAY});
         store.texts.push_back(text);
     }
