@@ -46,7 +46,7 @@ use Rattle.machine_laws.proofs.Moments.{answer_state}
 use Rattle.machine_laws.proofs.PassKeeps.{pass_each}
 use Rattle.sound_states.proofs.Ascending.{put_all, all_from}
 use Rattle.sound_states.proofs.Buckets.{in_place, same_num}
-use Rattle.sound_steps.specs.Numbers.{GivesOnce, NeverAgain}
+use Rattle.given_once.specs.Numbers.{GivesOnce, NeverAgain}
 
 -- ---- a list and its next number
 

@@ -40,9 +40,9 @@ use Rattle.b2_model.specs.Run.{Step, asks, begins, ends, loses, passes, restarts
 use Rattle.machine_laws.proofs.Moments.{answer_state}
 use Rattle.machine_laws.proofs.Passed.{none_in}
 use Rattle.machine_laws.proofs.PassKeeps.{on_each}
-use Rattle.sound_steps.specs.Tokens.{unless_refused, token_given}
+use Rattle.given_once.specs.Tokens.{unless_refused, token_given}
 use Rattle.sound_steps.proofs.Plans.{Pass, all_pass}
-use Rattle.sound_steps.proofs.Numbers.{GivesNext, plan_gives, end_gives}
+use Rattle.given_once.proofs.Numbers.{GivesNext, plan_gives, end_gives}
 use Rattle.sound_steps.proofs.TokenTexts.{tells_number}
 
 -- the second pair of numbers is not before the first
@@ -68,7 +68,7 @@ module _ {C : Type 0} where
     pub text : g.text ≡ token_text M.boot (M.serial + 1) first second
     pub left : (M.serial == 2 ^ 64 - 1) ≡ false
 
-  abbrev Next : State C → Option Grant → Type 0
+  abbrev pub Next : State C → Option Grant → Type 0
   Next M None = ⊤
   Next M (Some g) = IsNext M g
 
