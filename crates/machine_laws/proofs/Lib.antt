@@ -6,3 +6,4 @@ pub mod PassKeeps
 pub mod Answered
 pub mod Days
 pub mod Refused
+pub mod Details

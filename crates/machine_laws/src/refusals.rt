@@ -14,6 +14,7 @@ ghost use Rattle.b2_types.specs.Need.{need};
 ghost use Rattle.b2_types.specs.declared.call.Credentials.{Credentials as TheCredentials};
 ghost use Rattle.b2_types.specs.declared.upload.UploadCall.{UploadCall as TheUpload};
 ghost use Rattle.b2_types.specs.declared.answer.AnswerOf.TheVariants.{Refused};
+ghost use Rattle.b2_types.specs.Fault.{HasItsDetail};
 ghost use Rattle.b2_model.specs.Body.{Body};
 ghost use Rattle.b2_model.specs.Checks.{Check, first_fault, IsFirstFailing};
 ghost use Rattle.b2_model.specs.State.{State, Pieces};
@@ -22,6 +23,7 @@ ghost use Rattle.b2_model.specs.LiveGrant.{grant_at, is_live};
 ghost use Rattle.b2_model.specs.Policy.{Caller, caller_of, Judged, judged_call, token_rules, authorize_rules, policy_rules};
 ghost use Rattle.b2_model.specs.Ask.{ask, at_moment, is_open, refusals, refusals_of};
 ghost use Rattle.b2_model.specs.UploadSteps.{begin, begin_refusals, end};
+ghost use Rattle.machine_laws.specs.Details.{BringsItsDetail, UploadBringsItsDetail};
 ghost use Rattle.machine_laws.specs.Rules.{kinds_of, token_kinds, policy_kinds, IsJudged, end_refusals};
 
 /// A call that is refused moves the moment of the state alone, and draws no word. In a step the
@@ -92,4 +94,19 @@ pub fn live_where_rules_hold<C>()
         (token : List ℕ) (g : TheGrant) → grant_at M token ≡ Some g
         → list_any (λ c. c.fails) (drop 3 (token_rules t kinds fits (caller_of M (Some token))))
         ≡ not (is_live M t g) }
+{}
+
+/// Each refusal tells beside its kind what the table of faults says: a word, a number or nothing. What
+/// is amiss with a call is found before the machine, which tells it as it is.
+#[tactic(auto)]
+pub fn refusals_have_their_details<C>()
+    ensures call { (P : Pieces C) (M : State C) (t : ℕ) (words : List ℕ)
+        (token : Option (List ℕ)) (c : TheCall) (fault : TheFault) → BringsItsDetail c
+        → (ask P M t words token c).answer ≡ Refused fault → HasItsDetail fault }
+    ensures begin { (M : State C) (t conn : ℕ) (token : Option (List ℕ)) (u : TheUpload)
+        (fault : TheFault) → UploadBringsItsDetail u
+        → (begin M t conn token u).fault ≡ Some fault → HasItsDetail fault }
+    ensures end { (size : C → ℕ) (M : State C) (t : ℕ) (f : TheFlight) (body : Body C)
+        (words : List ℕ) (fault : TheFault) → UploadBringsItsDetail f.upload
+        → (end size M t f body words).answer ≡ Refused fault → HasItsDetail fault }
 {}
