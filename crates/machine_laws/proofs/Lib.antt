@@ -7,3 +7,4 @@ pub mod Answered
 pub mod Days
 pub mod Refused
 pub mod Details
+pub mod Existence
