@@ -36,7 +36,7 @@ int main(int count, char **words)
     times = atol(words[3]);
     for (size_t i = 0; i < PIECE; i++) piece[i] = i % 251;
     if (!strcmp(words[1], "file")) {
-        snprintf(path, sizeof path, "%s/stream", words[4]);
+        snprintf(path, sizeof path, "%s/content", words[4]);
         file = open(path, O_RDWR | O_CREAT | O_TRUNC, 0644);
         if (file < 0) return 2;
     }

@@ -6,6 +6,7 @@ mod file_disk;
 mod room;
 mod stream;
 
+use b2_base::Blob;
 use disk_model::{DiskImage, FlatDisk};
 use file_disk::FileDisk;
 use room::{take_and_return, with_holes};
@@ -14,7 +15,6 @@ use std::env;
 use std::process::ExitCode;
 use std::rt::Env;
 use stream::{PIECE, hash, store, write};
-use b2_base::Blob;
 
 // What the words after the program's name ask for.
 #[derive(Drop)]
