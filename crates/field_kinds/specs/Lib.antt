@@ -4,3 +4,4 @@ pub mod Kinds
 pub mod Info
 pub mod Rules
 pub mod Offered
+pub mod Kept

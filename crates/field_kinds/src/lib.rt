@@ -13,6 +13,9 @@ mod texts;
 
 pub use info::{info_at, optional_info};
 pub use offered::{idle_encryption, idle_list, idle_value};
-pub use reader::{FromJson, needed, needed_number, optional, optional_number, optional_u32, wrong};
+pub use reader::{
+    FromJson, needed, needed_number, needed_u32, optional, optional_number, optional_u32, wrong,
+};
+pub use retention::optional_retention;
 pub use rules::optional_rules;
 pub use texts::{TextRule, needed_choice, needed_text, optional_choice, optional_text};

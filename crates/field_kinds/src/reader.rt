@@ -86,6 +86,26 @@ pub fn needed_number(
     }
 }
 
+/// The whole number of 32 bits at the key, from `low` to `high`.
+pub fn needed_u32(
+    alloc: Global,
+    body: &Value,
+    key: &str,
+    low: u32,
+    high: u32,
+) -> Result<u32, Or<Fault>>
+    ensures { Gives (λ x. x) result (needed key.now (number_within low high) (view body.now)) }
+{
+    let found = match body.get(key) {
+        None | Some(Value::Null) => return Err(Or::Fault(missing(alloc, key)?)),
+        Some(found) => found,
+    };
+    match found.as_u64() {
+        Some(number) if u64::from(low) <= number && number <= u64::from(high) => Ok(number as u32),
+        _ => Err(Or::Fault(wrong(alloc, key)?)),
+    }
+}
+
 /// The whole number of 32 bits at the key, from `low` to `high`, where it is there.
 pub fn optional_u32(
     alloc: Global,

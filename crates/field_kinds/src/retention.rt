@@ -2,12 +2,13 @@
 
 ghost use Rattle.std.specs.Prelude.{◌≡◌, codes, IfOk};
 ghost use Rattle.serde_json.specs.View.{view};
-ghost use Rattle.json_shape.specs.Fields.{field};
+ghost use Rattle.json_shape.specs.Fields.{Gives, field};
 ghost use Rattle.field_kinds.specs.Kinds.{mode_of, mode_or_none, moment, until, retention};
+ghost use Rattle.field_kinds.specs.Kept.{kept};
 
-use crate::reader::FromJson;
-use b2_base::{Memory, Moment};
-use b2_types::{Mode, Retention};
+use crate::reader::{FromJson, optional};
+use b2_base::{Memory, Moment, Or};
+use b2_types::{Fault, Mode, Retention};
 use serde_json::Value;
 use std::alloc::Global;
 
@@ -70,5 +71,21 @@ impl FromJson for Option<Retention> {
             Some(until) => Ok(Some(Some(Retention { mode, until }))),
             None => Ok(None),
         }
+    }
+}
+
+/// The retention at the key, where it is there; one that is not there is none.
+#[tactic(auto, unfolding(crate::specs::Kept::kept))]
+pub fn optional_retention(
+    alloc: Global,
+    body: &Value,
+    key: &str,
+) -> Result<Option<Retention>, Or<Fault>>
+    ensures { Gives (λ x. x) result (kept key.now (view body.now)) }
+{
+    let found: Option<Option<Retention>> = optional(alloc, body, key)?;
+    match found {
+        Some(retention) => Ok(retention),
+        None => Ok(None),
     }
 }
