@@ -1,6 +1,7 @@
 //! Copies of names and of information.
 
-ghost use Rattle.std.specs.Prelude.{◌≡◌, IfOk};
+ghost use Rattle.std.specs.Prelude.{◌≡◌, [], IfOk, unwrap_or};
+ghost use Rattle.std.specs.Option.{option_copied};
 
 use b2_base::{Memory, Text};
 use name_rules::{FileName, InfoPairs, info_pairs};
@@ -14,12 +15,31 @@ pub fn copy_name(alloc: Global, name: &FileName) -> Result<FileName, Memory>
     Ok(FileName::of(text))
 }
 
-/// The same pairs: they are arranged already, and none of them breaks a rule.
-pub fn copy_info(alloc: Global, info: &InfoPairs) -> Result<InfoPairs, Memory>
+// The same pairs: they are arranged already, and none of them breaks a rule.
+fn kept_info(alloc: Global, info: &InfoPairs) -> Result<InfoPairs, Memory>
     ensures { IfOk result (λ i. i ≡ info.now) }
 {
     match info_pairs(alloc, info.get()) {
         Ok(info) => Ok(info),
         Err(_) => Err(Memory),
+    }
+}
+
+fn no_info(alloc: Global) -> Result<InfoPairs, Memory>
+    ensures { IfOk result (λ i. i ≡ []) }
+{
+    match info_pairs(alloc, &[]) {
+        Ok(info) => Ok(info),
+        Err(_) => Err(Memory),
+    }
+}
+
+/// The same pairs, or none.
+pub fn copy_info(alloc: Global, info: Option<&InfoPairs>) -> Result<InfoPairs, Memory>
+    ensures { IfOk result (λ i. i ≡ unwrap_or (option_copied info.entry) []) }
+{
+    match info {
+        Some(info) => kept_info(alloc, info),
+        None => no_info(alloc),
     }
 }

@@ -1,18 +1,24 @@
 //! Why there is no new version.
 
 ghost use Rattle.std.specs.Prelude.{◌≡◌};
-ghost use Rattle.new_versions.specs.Refusals.{refusal_fault};
+ghost use Rattle.new_versions.specs.Refusals.{lock_fault, refusal_fault};
 
 use b2_types::Fault;
 use rule_table::FaultKind;
 
-/// Why an upload is refused, or the start of a large file.
+/// Why a version does not get its retention or its hold.
 #[derive(Clone, Copy, Debug, PartialEq, Eq)]
-pub enum VersionRefusal {
-    /// A retention or a hold, in a bucket without Object Lock.
+pub enum LockRefusal {
+    /// One of them, in a bucket without Object Lock.
     LockOff,
     /// A retention that has ended.
     BadUntil,
+}
+
+/// Why an upload is refused, or the start of a large file.
+#[derive(Clone, Copy, Debug, PartialEq, Eq)]
+pub enum VersionRefusal {
+    Lock(LockRefusal),
     /// The content has another digest than the upload tells.
     BadDigest,
     /// No number of a version is left.
@@ -20,13 +26,22 @@ pub enum VersionRefusal {
 }
 
 /// The refusal as a fault.
+pub fn lock_fault(refusal: LockRefusal) -> Fault
+    ensures { result ≡ lock_fault refusal }
+{
+    Fault::plain(match refusal {
+        LockRefusal::LockOff => FaultKind::LockOff,
+        LockRefusal::BadUntil => FaultKind::BadUntil,
+    })
+}
+
+/// The refusal as a fault.
 pub fn fault_of(refusal: VersionRefusal) -> Fault
     ensures { result ≡ refusal_fault refusal }
 {
-    Fault::plain(match refusal {
-        VersionRefusal::LockOff => FaultKind::LockOff,
-        VersionRefusal::BadUntil => FaultKind::BadUntil,
-        VersionRefusal::BadDigest => FaultKind::BadDigest,
-        VersionRefusal::Cap => FaultKind::Cap,
-    })
+    match refusal {
+        VersionRefusal::Lock(refusal) => lock_fault(refusal),
+        VersionRefusal::BadDigest => Fault::plain(FaultKind::BadDigest),
+        VersionRefusal::Cap => Fault::plain(FaultKind::Cap),
+    }
 }

@@ -6,9 +6,9 @@ ghost use Rattle.b2_model.specs.Checks.{first_fault, some_and};
 ghost use Rattle.b2_model.specs.State.{State};
 ghost use Rattle.b2_model.specs.Plan.{bad_until, lock_off};
 ghost use Rattle.new_versions.specs.Decided.{next_number};
-ghost use Rattle.new_versions.specs.Refusals.{refusal_fault};
+ghost use Rattle.new_versions.specs.Refusals.{lock_fault};
 
-use crate::refusal::VersionRefusal;
+use crate::refusal::LockRefusal;
 use b2_base::{LAST_VERSION, Moment, VersionNum};
 use b2_types::Retention;
 
@@ -40,17 +40,17 @@ pub fn lock_rules(
     retention: Option<Retention>,
     hold: bool,
     lock: bool,
-) -> Option<VersionRefusal>
-    ensures { option_map refusal_fault result
+) -> Option<LockRefusal>
+    ensures { option_map lock_fault result
         ≡ first_fault (lock_off retention hold lock ∷ bad_until t retention ∷ []) }
 {
     let is_locked = retention.is_some() | hold;
     let is_off = is_locked & !lock;
     if is_off {
-        return Some(VersionRefusal::LockOff);
+        return Some(LockRefusal::LockOff);
     }
     if has_ended(retention, t) {
-        return Some(VersionRefusal::BadUntil);
+        return Some(LockRefusal::BadUntil);
     }
     None
 }

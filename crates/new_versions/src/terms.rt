@@ -1,14 +1,13 @@
 //! What a version is made of.
 
-ghost use Rattle.std.specs.Prelude.{◌≡◌, [], IfOk, unwrap_or};
-ghost use Rattle.std.specs.Option.{option_copied};
+ghost use Rattle.std.specs.Prelude.{◌≡◌, IfOk};
 ghost use Rattle.new_versions.specs.Terms.{version_of};
 
 use crate::copies::{copy_info, copy_name};
 use crate::media::resolved_type;
 use b2_base::{BucketNum, Memory, VersionNum};
 use b2_types::{NewVersion, Retention};
-use name_rules::{FileName, InfoPairs, info_pairs};
+use name_rules::{FileName, InfoPairs};
 use std::alloc::Global;
 
 /// What a version is made of, but for its number.
@@ -22,24 +21,6 @@ pub struct VersionTerms<'a> {
     pub info: Option<&'a InfoPairs>,
     pub retention: Option<Retention>,
     pub hold: bool,
-}
-
-fn info_of(alloc: Global, info: Option<&InfoPairs>) -> Result<InfoPairs, Memory>
-    ensures { IfOk result (λ i. i ≡ unwrap_or (option_copied info.entry) []) }
-{
-    match info {
-        Some(info) => copy_info(alloc, info),
-        None => no_info(alloc),
-    }
-}
-
-fn no_info(alloc: Global) -> Result<InfoPairs, Memory>
-    ensures { IfOk result (λ i. i ≡ []) }
-{
-    match info_pairs(alloc, &[]) {
-        Ok(info) => Ok(info),
-        Err(_) => Err(Memory),
-    }
 }
 
 /// The version of this number, with its type resolved.
@@ -56,7 +37,7 @@ pub fn new_version(
         num,
         name: copy_name(alloc, of.name)?,
         kind,
-        info: info_of(alloc, of.info)?,
+        info: copy_info(alloc, of.info)?,
         retention: of.retention,
         hold: of.hold,
     })

@@ -33,7 +33,7 @@ pub fn may_upload(
         → refused refusal_fault result ≡ first_fault (begin_rules M t token (File call.now)) }
 {
     if let Some(refusal) = lock_rules(t, call.retention, call.hold, bucket.lock) {
-        return Err(refusal);
+        return Err(VersionRefusal::Lock(refusal));
     }
     if next.is_none() {
         return Err(VersionRefusal::Cap);
@@ -51,11 +51,11 @@ fn accepted(
 ) -> Result<VersionNum, VersionRefusal>
     ensures rules { (M : State TheExtent) (key : TheOption TheKey) → next_number M ≡ next
         → refused refusal_fault result ≡ first_fault
-            (file_end extent_len M t key (body_at body.now) call.now bucket.now).own }
+        (file_end extent_len M t key (body_at body.now) call.now bucket.now).own }
     ensures number { IfOk result (λ num. next ≡ Some num) }
 {
     if let Some(refusal) = lock_rules(t, call.retention, call.hold, bucket.lock) {
-        return Err(refusal);
+        return Err(VersionRefusal::Lock(refusal));
     }
     if !agrees(call.digest, body) {
         return Err(VersionRefusal::BadDigest);
@@ -97,7 +97,7 @@ pub fn upload(
 ) -> Result<Record, Or<VersionRefusal>>
     ensures { (M : State TheExtent) (key : TheOption TheKey) → next_number M ≡ next
         → DecidesOr refusal_fault t
-            (file_end extent_len M t key (body_at body.now) call.now bucket.now) result }
+        (file_end extent_len M t key (body_at body.now) call.now bucket.now) result }
 {
     let num = match accepted(bucket, next, t, call, body) {
         Ok(num) => num,
