@@ -1,5 +1,5 @@
-//! What a new version of a file is: its type, its retention, its number and its record, for uploads, large
-//! files, copies and markers alike, and why there is none.
+//! What a new version of a file is: its type, its retention, its number and its record, for
+//! uploads, large files, copies and markers alike, and why there is none.
 #![tactic(auto)]
 
 mod body;

@@ -37,8 +37,8 @@ pub fn hide_fault(refusal: HideRefusal) -> Fault
     })
 }
 
-/// What a hide comes to, where this is what the current version of the name is: the marker's record, or the
-/// first rule of its own that refuses it.
+/// What a hide comes to, where this is what the current version of the name is: the marker's
+/// record, or the first rule of its own that refuses it.
 pub fn hide(
     alloc: Global,
     bucket: &Bucket,

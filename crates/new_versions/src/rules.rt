@@ -33,8 +33,8 @@ fn has_ended(retention: Option<Retention>, t: Moment) -> bool
     }
 }
 
-/// The first of the two rules of locks that keeps a version from having this retention and this hold, in a
-/// bucket with Object Lock or without.
+/// The first of the two rules of locks that keeps a version from having this retention and this
+/// hold, in a bucket with Object Lock or without.
 pub fn lock_rules(
     t: Moment,
     retention: Option<Retention>,

@@ -1,7 +1,8 @@
 //! Types by names, uploads and markers.
 
 use crate::{
-    Body, HideRefusal, VersionRefusal, hide, may_upload, next_number, resolved_type, upload,
+    Body, HideRefusal, LockRefusal, VersionRefusal, hide, may_upload, next_number, resolved_type,
+    upload,
 };
 use b2_base::{BucketNum, Extent, List, Moment, Or, Text};
 use b2_types::{
@@ -75,7 +76,8 @@ fn call(alloc: Global, until: Option<u64>) -> Result<FileUpload, Fail> {
     })
 }
 
-// The version's number and the bytes of its type, of its information's first key and of its content.
+// The version's number and the bytes of its type, of its information's first key and of its
+// content.
 fn parts_of(record: &Record) -> (u64, usize, usize, u64) {
     match &record.change {
         ChangeOf::Upload(version, content, Mark::Verified, _) => (

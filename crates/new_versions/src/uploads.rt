@@ -85,8 +85,8 @@ fn uploaded(
     new_version(alloc, num, &of)
 }
 
-/// What the end of an upload comes to, in the bucket that it names: its record, or the first rule of its own
-/// that refuses it.
+/// What the end of an upload comes to, in the bucket that it names: its record, or the first rule
+/// of its own that refuses it.
 pub fn upload(
     alloc: Global,
     bucket: &Bucket,
