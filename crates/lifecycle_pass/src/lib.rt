@@ -1,0 +1,9 @@
+//! The lifecycle rules of a bucket, and what a pass does by them: which names it hides and which versions it
+//! removes.
+#![tactic(auto)]
+
+mod plans;
+mod rules;
+
+pub use plans::{Face, Plan, plan_name};
+pub use rules::{RuleFault, rules_ok};
