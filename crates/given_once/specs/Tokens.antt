@@ -7,10 +7,10 @@ use Rattle.b2_model.specs.State.{Pieces}
 use Rattle.b2_model.specs.Ask.{plan_of, refusals_of}
 use Rattle.b2_model.specs.Run.{Step, asks, begins, ends, loses, passes, restarts, Progress, moment, start_of}
 
--- the token of a call that is not refused
-abbrev pub unless_refused : Option Fault → Option Grant → Option Grant
-unless_refused None grant = grant
-unless_refused (Some fault) grant = None
+-- what comes of a call that is not refused
+abbrev pub unless_refused : {X : Type 0} → Option Fault → Option X → Option X
+unless_refused None x = x
+unless_refused (Some fault) x = None
 
 -- the token that a step gives
 abbrev pub token_given : {C : Type 0} → Pieces C → Progress C → Step C → Option Grant
