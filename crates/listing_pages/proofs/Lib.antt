@@ -1,0 +1,10 @@
+pub mod Gather
+pub mod InFolders
+pub mod Left
+pub mod Names
+pub mod Paged
+pub mod Shown
+pub mod Sought
+pub mod Starts
+pub mod Texts
+pub mod Turns

@@ -1,0 +1,14 @@
+//! Pages of listings, found by seeks.
+#![tactic(auto)]
+
+mod ask;
+mod folders;
+mod laws;
+mod page;
+mod places;
+mod versions;
+
+pub use ask::Ask;
+pub use laws::{folder_in_one_seek, names_of_a_folder, starts_and_folders};
+pub use page::{Page, PageRow};
+pub use versions::versions_page;
