@@ -1,5 +1,5 @@
 -- Ranges of bytes as texts (RFC 9110, section 14.1.2).
-use Rattle.std.specs.Prelude.{◌≡◌, ◌≤◌, ℕ, Bool, true, nat_le, List, [], ◌∷◌, ◌++◌, ◌==◌, codes, Option, Some, None, option_map, option_and_then, if◌then◌else◌}
+use Rattle.std.specs.Prelude.{◌≡◌, ◌≤◌, ℕ, true, nat_le, List, [], ◌∷◌, ◌++◌, ◌==◌, codes, Option, Some, None, option_map, option_and_then, if◌then◌else◌}
 use Rattle.std.specs.Str.Parse.{digits_value}
 use Rattle.b2_base.specs.Decimal.{has_digits}
 use Rattle.b2_types.specs.declared.call.ByteRange.{ByteRange}
@@ -30,10 +30,13 @@ after [] text = Some text
 after (p ∷ ps) [] = None
 after (p ∷ ps) (b ∷ bs) = if b == p then after ps bs else None
 
+abbrev pub with_byte : ℕ → List ℕ × List ℕ → List ℕ × List ℕ
+with_byte b p = (b ∷ p.0, p.1)
+
 -- what stands before and after the first hyphen
 abbrev pub halves : List ℕ → Option (List ℕ × List ℕ)
 halves [] = None
-halves (b ∷ bs) = if b == 45 then Some ([], bs) else option_map (λ p. (b ∷ p.0, p.1)) (halves bs)
+halves (b ∷ bs) = if b == 45 then Some ([], bs) else option_map (with_byte b) (halves bs)
 
 abbrev pub in_order : ℕ → ℕ → Option ByteRange
 in_order a b = if nat_le a b then Some (Between a b) else None

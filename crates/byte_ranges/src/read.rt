@@ -36,13 +36,24 @@ fn range_at(first: &[u8], last: &[u8]) -> Option<ByteRange>
     }
 }
 
+fn range_of(text: &[u8]) -> Option<ByteRange>
+    ensures { result ≡ range_of text.now }
+{
+    let Some(rest) = behind(b"bytes=", text) else {
+        return None;
+    };
+    let Some((first, last)) = cut_at(b'-', rest) else {
+        return None;
+    };
+    range_at(first, last)
+}
+
 /// The range that the text asks for; a text of any other form asks for none.
+#[tactic(auto, using(crate::proofs::Grammar::matches))]
 pub fn read_range(text: &[u8]) -> Option<ByteRange>
     ensures range { MatchOption result ((r : TheRange) → IsRange text.now r → ⊥)
         (IsRange text.now) }
     ensures is { result ≡ range_of text.now }
 {
-    let rest = behind(b"bytes=", text)?;
-    let (first, last) = cut_at(b'-', rest)?;
-    range_at(first, last)
+    range_of(text)
 }
