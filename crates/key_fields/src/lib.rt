@@ -6,4 +6,3 @@ mod keys;
 mod limits;
 
 pub use keys::{create_key, delete_key, list_keys};
-
