@@ -11,7 +11,7 @@ use Rattle.b2_model.specs.LiveGrant.{grant_at}
 use Rattle.b2_model.specs.UploadSteps.{flight_of}
 use Rattle.b2_model.specs.Stored.{numbers_of}
 use Rattle.b2_model.specs.Run.{Step, Progress}
-use Rattle.sound_states.specs.Sound.{IsBefore, IsFor, IsToken, IsUnderWay, IsSound}
+use Rattle.sound_states.specs.Sound.{IsBefore, IsFor, Names, IsToken, IsUnderWay, IsSound}
 use Rattle.sound_states.proofs.Ascending.{all_from, pairs_head, pairs_tail}
 use Rattle.sound_states.proofs.Tests.{equal_numbers}
 use Rattle.sound_states.proofs.Tokens.{same_text}
@@ -78,3 +78,8 @@ module _ {C : Type 0} where
   pub of_other_keys : (M : State C) → IsSound M → All (λ g. g.key ≡ M.next_key → ⊥) M.grants
   of_other_keys M sound =
       all_from (IsToken (numbers_of M) M.serial) (λ g. g.key ≡ M.next_key → ⊥) M.grants (λ g is same. let below = is.key in absurd (omega (arith, below, same))) sound.tokens.given
+
+  pub named : (M : State C) (text : List ℕ) (g : Grant) → IsSound M → grant_at M text ≡ Some g → (g.key < M.next_key) × Names (numbers_of M) g.kind g
+  named M text g sound is =
+      let known = (found_has (λ g. bytes_eq g.text text) (IsToken (numbers_of M) M.serial) M.grants g sound.tokens.given is).1 in
+      (known.key, known.names)

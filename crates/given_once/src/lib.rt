@@ -10,8 +10,9 @@ ghost use Rattle.b2_model.specs.State.{State, Pieces};
 ghost use Rattle.b2_model.specs.LiveGrant.{grant_at};
 ghost use Rattle.b2_model.specs.Changes.{new_store};
 ghost use Rattle.b2_model.specs.UploadSteps.{flight_of};
+ghost use Rattle.b2_model.specs.Stored.{numbers_of};
 ghost use Rattle.b2_model.specs.Run.{Step, Progress, run};
-ghost use Rattle.sound_states.specs.Sound.{IsBefore, IsFor, IsSound};
+ghost use Rattle.sound_states.specs.Sound.{IsBefore, IsFor, IsSound, Names};
 ghost use Rattle.sound_steps.specs.FitSteps.{IsFitStep};
 ghost use Rattle.given_once.specs.Numbers.{NeverAgain};
 ghost use Rattle.given_once.specs.Tokens.{token_given};
@@ -64,4 +65,12 @@ pub fn uploads_have_their_tokens<C>()
 #[tactic(auto)]
 pub fn new_keys_have_no_tokens<C>()
     ensures { (M : State C) → IsSound M → All (λ g. g.key ≢ M.next_key) M.grants }
+{}
+
+/// What a token names was given: its key, and by its kind its bucket and its file. None of them
+/// need stand any more.
+#[tactic(auto)]
+pub fn tokens_name_what_was_given<C>()
+    ensures { (M : State C) (text : List ℕ) (g : TheGrant) → IsSound M
+        → grant_at M text ≡ Some g → (g.key < M.next_key) × Names (numbers_of M) g.kind g }
 {}
