@@ -57,9 +57,9 @@ fn written(record: &Record) -> Option<(u32, u64)> {
 }
 
 fn answer_of(
-    result: Result<Record, Or<BucketRefusal>>,
+    decided: Result<Record, Or<BucketRefusal>>,
 ) -> Result<(Option<BucketRefusal>, Option<(u32, u64)>), Fail> {
-    match result {
+    match decided {
         Ok(record) => Ok((None, written(&record))),
         Err(Or::Fault(refusal)) => Ok((Some(refusal), None)),
         Err(Or::Memory) => Err(Fail::from("memory")),

@@ -1,5 +1,5 @@
 -- What two states have in common of a caller's buckets, or of the names in them, says what it is answered.
-use Rattle.std.proofs.Common.{◌≡◌, ℕ, ◌==◌, Bool, true, false, not, ◌||◌, List, [], Option, Some, find, bytes_eq, unwrap_or, option_and_then, refl, sym, ap, ◌∙◌}
+use Rattle.std.proofs.Common.{get_or, ◌≡◌, ℕ, ◌==◌, Bool, true, false, not, ◌||◌, List, [], Option, Some, find, bytes_eq, unwrap_or, option_and_then, refl, sym, ap, ◌∙◌}
 use Rattle.std.specs.List.{AllPairs}
 use Rattle.b2_types.specs.declared.key.Grant.{Grant}
 use Rattle.b2_types.specs.declared.key.Key.{Key}
@@ -13,9 +13,11 @@ use Rattle.b2_model.specs.Policy.{Caller, caller_of, limits, prefix_limit, is_na
 use Rattle.b2_model.specs.AskListings.{listing_of}
 use Rattle.b2_model.specs.Pages.{listing_page, visible_versions}
 use Rattle.b2_model.specs.Ask.{ask}
-use Rattle.sound_states.specs.Sound.{IsSound}
+use Rattle.std.specs.Ordering.{is_eq}
+use Rattle.std.proofs.lemmas.Map.Text.{is_eq-slice_cmp}
+use Rattle.sound_states.specs.Sound.{IsBefore, IsSound}
 use Rattle.sound_states.proofs.Tests.{neither}
-use Rattle.isolation_laws.specs.Agree.{AgreeOnKey, AreTokensApart, AgreeOnBuckets, AgreeOnNames}
+use Rattle.isolation_laws.specs.Agree.{AgreeOnKey, AgreeOnBuckets, AgreeOnNames}
 use Rattle.isolation_laws.specs.Naming.{IsLook, NamesWithin, NamesUnder}
 use Rattle.isolation_laws.proofs.Kept.{found_kept, found_alone, AtMostOne}
 use Rattle.isolation_laws.proofs.Buckets.{is_itself, not_false, same_text, bucket_alike, name_among_alike, named_alike, named_own, listed_alike, outside_alike}
@@ -114,17 +116,24 @@ module _ {C : Type 0} (P : Pieces C) (M N : State C) (t : ℕ) (words : List ℕ
 abbrev caller_by : List ℕ → Option Grant → Option Key → Caller
 caller_by token o k = record { token = Some token; grant = o; key = k }
 
-one_token : (token : List ℕ) (gs : List Grant) → AllPairs (λ g h. bytes_eq g.text h.text ≡ false) gs → AtMostOne (λ g. bytes_eq g.text token) gs
-one_token token gs apart i j d lt within same = same_text _ _ token _ refl (apart i j d lt within) same
+-- texts that stand in order differ
+in_order : (a b : List ℕ) → IsBefore a b → bytes_eq a b ≡ false
+in_order a b less = sym (is_eq-slice_cmp a b) ∙ ap is_eq less
+
+one_token : (token : List ℕ) (gs : List Grant) → AllPairs (λ g h. IsBefore g.text h.text) gs → AtMostOne (λ g. bytes_eq g.text token) gs
+one_token token gs order i j d lt within same =
+    let a = (get_or gs i d).text in
+    let b = (get_or gs j d).text in
+    same_text a b token (bytes_eq b token) refl (in_order a b (order i j d lt within)) same
 
 module _ {C : Type 0} where
   abbrev asks_with : List ℕ → State C → Option Grant → Caller
   asks_with token S o = caller_by token o (option_and_then (λ g. key_at S g.key) o)
 
-  pub token_known_alike : (M N : State C) (key : ℕ) (token : List ℕ) (g : Grant) → AgreeOnKey key M N → AreTokensApart N → grant_at M token ≡ Some g → g.key ≡ key → caller_of M (Some token) ≡ caller_of N (Some token)
-  token_known_alike M N key token g agree apart is of_key =
+  pub token_known_alike : (M N : State C) (key : ℕ) (token : List ℕ) (g : Grant) → AgreeOnKey key M N → IsSound N → grant_at M token ≡ Some g → g.key ≡ key → caller_of M (Some token) ≡ caller_of N (Some token)
+  token_known_alike M N key token g agree sound is of_key =
       let own : (g.key == key) ≡ true = rw of_key (is_itself key) in
-      let there : grant_at N token ≡ Some g = found_alone (λ g. bytes_eq g.text token) (λ g. g.key == key) N.grants g (one_token token N.grants apart)
+      let there : grant_at N token ≡ Some g = found_alone (λ g. bytes_eq g.text token) (λ g. g.key == key) N.grants g (one_token token N.grants sound.tokens.order)
       (ap (find (λ g. bytes_eq g.text token)) (sym agree.tokens) ∙ found_kept (λ g. bytes_eq g.text token) (λ g. g.key == key) M.grants g is own) in
       let keys : key_at M g.key ≡ key_at N g.key = rw of_key agree.same in
       ap (asks_with token M) is ∙ ap (caller_by token (Some g)) keys ∙ sym (ap (asks_with token N) there)

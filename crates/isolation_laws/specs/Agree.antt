@@ -1,6 +1,5 @@
 -- What two states have in common, where they agree on a key, on some buckets, or on some names in these.
-use Rattle.std.specs.Prelude.{◌≡◌, ℕ, ◌&&◌, ◌==◌, false, List, filter, bytes_eq}
-use Rattle.std.specs.List.{AllPairs}
+use Rattle.std.specs.Prelude.{◌≡◌, ℕ, ◌&&◌, ◌==◌, List, filter}
 use Rattle.name_rules.specs.Folder.{begins_with}
 use Rattle.b2_types.specs.declared.fault.Fault.{Fault}
 use Rattle.b2_types.specs.declared.answer.AnswerOf.{AnswerOf}
@@ -12,10 +11,6 @@ use Rattle.b2_model.specs.State.{State, key_at}
 pub record AgreeOnKey {C : Type 0} (key : ℕ) (M N : State C) : Type 0 where
   pub same : key_at M key ≡ key_at N key
   pub tokens : filter (λ g. g.key == key) M.grants ≡ filter (λ g. g.key == key) N.grants
-
--- each token has a text of its own
-abbrev pub AreTokensApart : {C : Type 0} → State C → Type 0
-AreTokensApart M = AllPairs (λ g h. bytes_eq g.text h.text ≡ false) M.grants
 
 -- they have the same settings, and the same of these buckets with all that stands in them
 pub record AgreeOnBuckets {C : Type 0} (own : List ℕ) (M N : State C) : Type 0 where

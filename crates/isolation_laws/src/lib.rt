@@ -14,7 +14,7 @@ ghost use Rattle.b2_model.specs.State.{State, Pieces};
 ghost use Rattle.b2_model.specs.Policy.{caller_of, limits, prefix_limit, judged_call, token_rules, call_rules};
 ghost use Rattle.b2_model.specs.Ask.{ask};
 ghost use Rattle.sound_states.specs.Sound.{IsSound};
-ghost use Rattle.isolation_laws.specs.Agree.{AgreeOnKey, AreTokensApart, AgreeOnBuckets, AgreeOnNames, AreOneRefusal};
+ghost use Rattle.isolation_laws.specs.Agree.{AgreeOnKey, AgreeOnBuckets, AgreeOnNames, AreOneRefusal};
 ghost use Rattle.isolation_laws.specs.Naming.{LooksInto, IsLimitedToOthers, IsLook, NamesWithin, NamesUnder};
 
 /// Whoever is limited to some buckets and looks into these alone is answered alike in any two states
@@ -41,11 +41,11 @@ pub fn own_names_are_answered_alike<C>()
         → (ask P M t words token c).answer ≡ (ask P N t words token c).answer }
 {}
 
-/// A token of a key is one, with that key, in each state that agrees on the key.
+/// A token of a key is one, with that key, in each sound state that agrees on the key.
 #[tactic(auto, using(crate::proofs::Alike::token_known_alike))]
 pub fn own_tokens_are_known_alike<C>()
     ensures { (M N : State C) (key : ℕ) (token : List ℕ) (g : TheGrant) → AgreeOnKey key M N
-        → AreTokensApart N → grant_at M token ≡ Some g → g.key ≡ key
+        → IsSound N → grant_at M token ≡ Some g → g.key ≡ key
         → caller_of M (Some token) ≡ caller_of N (Some token) }
 {}
 
