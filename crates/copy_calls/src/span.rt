@@ -54,14 +54,14 @@ fn span_of(len: u64, range: ByteRange) -> Span
 /// The bytes of a range of the source, whose content has this length, or the first rule of ranges
 /// that fails.
 pub(crate) fn range_span(
-    version: &Version,
+    source: &Version,
     len: u64,
     range: Option<ByteRange>,
 ) -> Result<Span, CopyRefusal>
-    requires { length_of extent_len version.now.content ≡ len }
+    requires { length_of extent_len source.now.content ≡ len }
     ensures rules { refused copy_fault result
-        ≡ first_fault (span_rules extent_len version.now range) }
-    ensures span { IfOk result (λ span. span ≡ copied_span extent_len version.now range) }
+        ≡ first_fault (span_rules extent_len source.now range) }
+    ensures span { IfOk result (λ span. span ≡ copied_span extent_len source.now range) }
 {
     let span = match range {
         Some(range) => {
@@ -78,22 +78,22 @@ pub(crate) fn range_span(
     Ok(span)
 }
 
-pub(crate) fn is_upload(version: &Version) -> bool
-    ensures { result ≡ is_upload version.now.action }
+pub(crate) fn is_upload(source: &Version) -> bool
+    ensures { result ≡ is_upload source.now.action }
 {
-    matches!(version.action, Action::Upload)
+    matches!(source.action, Action::Upload)
 }
 
 /// The bytes that are copied of a source whose content has this length, or the first rule of
 /// sources and ranges that fails.
-pub fn copy_span(version: &Version, len: u64, range: Option<ByteRange>) -> Result<Span, CopyRefusal>
-    requires { length_of extent_len version.now.content ≡ len }
+pub fn copy_span(source: &Version, len: u64, range: Option<ByteRange>) -> Result<Span, CopyRefusal>
+    requires { length_of extent_len source.now.content ≡ len }
     ensures rules { refused copy_fault result
-        ≡ first_fault (no_upload version.now ∷ span_rules extent_len version.now range) }
-    ensures span { IfOk result (λ span. span ≡ copied_span extent_len version.now range) }
+        ≡ first_fault (no_upload source.now ∷ span_rules extent_len source.now range) }
+    ensures span { IfOk result (λ span. span ≡ copied_span extent_len source.now range) }
 {
-    if !is_upload(version) {
+    if !is_upload(source) {
         return Err(CopyRefusal::NoFile);
     }
-    range_span(version, len, range)
+    range_span(source, len, range)
 }

@@ -5,24 +5,25 @@ ghost use Rattle.b2_model.specs.State.{length_of};
 ghost use Rattle.new_versions.specs.Decided.{extent_len};
 
 use crate::{
-    CopiedBytes, CopyRefusal, copy_file, copy_part, copy_span, copy_upload, may_copy_file,
-    may_copy_part,
+    CopiedBytes, CopyRefusal, FilePlan, copy_file, copy_part, copy_span, copy_upload,
+    may_copy_file, may_copy_part,
 };
 use b2_base::{BucketNum, Extent, List, Moment, Text, VersionNum};
 use b2_types::{
     Action, Bucket, ByteRange, ChangeOf, CopyFile, CopyMetadata, CopyPart, Mark, Part, Record,
     Rule, Version, VersionId, VersionOf,
 };
-use name_rules::{FileName, bucket_name, file_name, info_pairs};
+use name_rules::{FileName, bucket_name, file_name};
+use new_versions::copy_info;
 use std::alloc::Global;
 use std::test::Fail;
 
-fn bucket_num() -> Result<BucketNum, Fail> {
-    Ok(BucketNum::new(1).ok_or("bucket")?)
+fn bucket_num() -> BucketNum {
+    BucketNum::new(1).unwrap()
 }
 
-fn num(num: u64) -> Result<VersionNum, Fail> {
-    Ok(VersionNum::new(num).ok_or("version")?)
+fn num() -> VersionNum {
+    VersionNum::new(7).unwrap()
 }
 
 fn name(alloc: Global) -> Result<FileName, Fail> {
@@ -41,13 +42,13 @@ fn version(alloc: Global, action: Action, len: u64) -> Result<Version, Fail>
 {
     let parts: Vec<Part> = Vec::new(alloc);
     Ok(VersionOf {
-        bucket: bucket_num()?,
-        num: num(7)?,
+        bucket: bucket_num(),
+        num: num(),
         name: name(alloc)?,
         action,
         stamp: Moment::from_reading(1000),
         kind: Text::copy(alloc, "image/png")?,
-        info: info_pairs(alloc, &[]).ok().ok_or("info")?,
+        info: copy_info(alloc, None)?,
         content: pieces(alloc, len)?,
         mark: Mark::Verified,
         digest: [7; 20],
@@ -107,8 +108,8 @@ const COPIED: CopiedBytes = CopiedBytes {
 fn file_call(alloc: Global, metadata: CopyMetadata) -> Result<CopyFile, Fail> {
     Ok(CopyFile {
         source: VersionId {
-            bucket: bucket_num()?,
-            num: num(7)?,
+            bucket: bucket_num(),
+            num: num(),
         },
         bucket: None,
         name: name(alloc)?,
@@ -122,41 +123,88 @@ fn file_call(alloc: Global, metadata: CopyMetadata) -> Result<CopyFile, Fail> {
 fn bucket(alloc: Global) -> Result<Bucket, Fail> {
     let rules: Vec<Rule> = Vec::new(alloc);
     Ok(Bucket {
-        num: bucket_num()?,
+        num: bucket_num(),
         name: bucket_name(alloc, b"photos-1").ok().ok_or("bucket")?,
         public: false,
         revision: 1,
         lock: false,
         default: None,
-        info: info_pairs(alloc, &[]).ok().ok_or("info")?,
+        info: copy_info(alloc, None)?,
         rules: List::of(rules),
     })
 }
 
-// The bytes of the types of the upload and of the file that a copy is.
-fn file_copy(alloc: Global, metadata: CopyMetadata) -> Result<(usize, usize), Fail> {
-    let version = version(alloc, Action::Upload, 3)?;
-    let bucket = bucket(alloc)?;
-    let call = file_call(alloc, metadata)?;
-    let t = Moment::from_reading(2000);
-    let plan = may_copy_file(&version, 3, &bucket, VersionNum::new(8), t, &call)
-        .ok()
-        .ok_or("plan")?;
-    let upload = copy_upload(alloc, &version, &call, bucket.num, plan.span.len, [8; 20])?;
-    let told = upload.kind.get().len();
-    match copy_file(alloc, &version, &bucket, plan.num, t, &call, &COPIED) {
-        Ok(record) => Ok((told, parts_of(&record).0)),
-        Err(_) => Err(Fail::from("memory")),
+// The bytes of the type of the upload that a copy is.
+fn told_kind(alloc: Global, version: &Version, call: &CopyFile) -> usize {
+    match copy_upload(alloc, version, call, bucket_num(), 3, [8; 20]) {
+        Ok(upload) => upload.kind.get().len(),
+        Err(_) => 0,
     }
+}
+
+// The bytes of the type of the file that a copy makes.
+fn made_kind(
+    alloc: Global,
+    version: &Version,
+    bucket: &Bucket,
+    num: VersionNum,
+    call: &CopyFile,
+) -> usize {
+    match copy_file(
+        alloc,
+        version,
+        bucket,
+        num,
+        Moment::from_reading(2000),
+        call,
+        &COPIED,
+    ) {
+        Ok(record) => parts_of(&record).0,
+        Err(_) => 0,
+    }
+}
+
+fn plan(version: &Version, bucket: &Bucket, call: &CopyFile) -> Result<FilePlan, CopyRefusal>
+    requires { length_of extent_len version.now.content ≡ 3 }
+{
+    may_copy_file(
+        version,
+        3,
+        bucket,
+        VersionNum::new(8),
+        Moment::from_reading(2000),
+        call,
+    )
+}
+
+// The bytes of the types of the upload and of the file that a copy is.
+fn file_copy(alloc: Global, metadata: CopyMetadata) -> Result<(usize, usize, usize), Fail> {
+    let call = file_call(alloc, metadata)?;
+    let bucket = bucket(alloc)?;
+    let version = version(alloc, Action::Upload, 3)?;
+    let told = told_kind(alloc, &version, &call);
+    Ok(match plan(&version, &bucket, &call) {
+        Ok(plan) => {
+            let made = made_kind(alloc, &version, &bucket, plan.num, &call);
+            (plan.span.len as usize, told, made)
+        }
+        Err(_) => (0, 0, 0),
+    })
 }
 
 #[test]
 fn copied_types(rt: HostRuntime) -> Result<(), Fail> {
     let alloc = rt.alloc();
-    assert_eq!(rt; file_copy(alloc, CopyMetadata::Kept)?, (9, 9));
+    assert_eq!(rt; file_copy(alloc, CopyMetadata::Kept)?, (3, 9, 9));
     let given = CopyMetadata::Replaced(Text::copy(alloc, "b2/x-auto")?, None);
-    assert_eq!(rt; file_copy(alloc, given)?, (9, 10));
+    assert_eq!(rt; file_copy(alloc, given)?, (3, 9, 10));
     Ok(())
+}
+
+fn copied_len(source: &Version, large: &Version, call: &CopyPart) -> Result<u64, CopyRefusal>
+    requires { length_of extent_len source.now.content ≡ 3 }
+{
+    Ok(may_copy_part(source, 3, large, call)?.len)
 }
 
 #[test]
@@ -164,20 +212,21 @@ fn copied_part(rt: HostRuntime) -> Result<(), Fail> {
     let alloc = rt.alloc();
     let call = CopyPart {
         source: VersionId {
-            bucket: bucket_num()?,
-            num: num(7)?,
+            bucket: bucket_num(),
+            num: num(),
         },
-        bucket: bucket_num()?,
-        file: num(9)?,
+        bucket: bucket_num(),
+        file: num(),
         number: 2,
         range: None,
     };
     let source = version(alloc, Action::Upload, 3)?;
     let large = version(alloc, Action::Start, 0)?;
-    for (large, answer) in [(&large, Ok(3)), (&source, Err(CopyRefusal::NotLarge))] {
-        let found = may_copy_part(&source, 3, large, &call).map(|span| span.len);
-        assert_eq!(rt; found, answer);
-    }
+    assert_eq!(rt; copied_len(&source, &large, &call), Ok(3));
+    assert_eq!(rt;
+        copied_len(&source, &source, &call),
+        Err(CopyRefusal::NotLarge)
+    );
     let record = copy_part(&large, Moment::from_reading(2000), &call, &COPIED);
     assert_eq!(rt; parts_of(&record), (0, 3, 2));
     Ok(())

@@ -12,8 +12,8 @@ use b2_types::{
     Action, Bucket, ChangeOf, DigestRule, FinishCall, Mark, Part, PartOf, PartUpload, Record, Rule,
     StartCall, Version, VersionOf,
 };
-use name_rules::{FileName, bucket_name, file_name, info_pairs};
-use new_versions::Body;
+use name_rules::{FileName, bucket_name, file_name};
+use new_versions::{Body, copy_info};
 use std::alloc::Global;
 use std::test::Fail;
 
@@ -42,12 +42,12 @@ fn name(alloc: Global) -> Result<FileName, Fail> {
     Ok(file_name(alloc, b"film").ok().ok_or("name")?)
 }
 
-fn bucket_num() -> Result<BucketNum, Fail> {
-    Ok(BucketNum::new(1).ok_or("bucket")?)
+fn bucket_num() -> BucketNum {
+    BucketNum::new(1).unwrap()
 }
 
-fn num() -> Result<VersionNum, Fail> {
-    Ok(VersionNum::new(7).ok_or("version")?)
+fn num() -> VersionNum {
+    VersionNum::new(7).unwrap()
 }
 
 fn version(alloc: Global, action: Action, parts: Vec<Part>) -> Result<Version, Fail>
@@ -55,13 +55,13 @@ fn version(alloc: Global, action: Action, parts: Vec<Part>) -> Result<Version, F
 {
     let pieces: Vec<Extent> = Vec::new(alloc);
     Ok(VersionOf {
-        bucket: bucket_num()?,
-        num: num()?,
+        bucket: bucket_num(),
+        num: num(),
         name: name(alloc)?,
         action,
         stamp: Moment::from_reading(1000),
         kind: Text::copy(alloc, "video/mp4")?,
-        info: info_pairs(alloc, &[]).ok().ok_or("info")?,
+        info: copy_info(alloc, None)?,
         content: List::of(pieces),
         mark: Mark::Large,
         digest: [0; 20],
@@ -77,8 +77,8 @@ fn finish_call(alloc: Global, digests: &[u8]) -> Result<FinishCall, Fail> {
         list.push([*digest; 20])?;
     }
     Ok(FinishCall {
-        bucket: bucket_num()?,
-        file: num()?,
+        bucket: bucket_num(),
+        file: num(),
         digests: List::of(list),
     })
 }
@@ -152,17 +152,17 @@ fn cancel(version: &Version) -> Result<(u64, u32), NotLarge> {
 fn start(alloc: Global, next: Option<VersionNum>) -> Result<Option<(u64, u32)>, Fail> {
     let rules: Vec<Rule> = Vec::new(alloc);
     let bucket = Bucket {
-        num: bucket_num()?,
+        num: bucket_num(),
         name: bucket_name(alloc, b"photos-1").ok().ok_or("bucket")?,
         public: false,
         revision: 1,
         lock: false,
         default: None,
-        info: info_pairs(alloc, &[]).ok().ok_or("info")?,
+        info: copy_info(alloc, None)?,
         rules: List::of(rules),
     };
     let call = StartCall {
-        bucket: bucket_num()?,
+        bucket: bucket_num(),
         name: name(alloc)?,
         kind: Text::copy(alloc, "b2/x-auto")?,
         info: None,

@@ -6,7 +6,7 @@ use crate::{
 };
 use b2_base::{BucketNum, Extent, List, Moment, Or, Text};
 use b2_types::{
-    Action, Bucket, ChangeOf, DigestRule, FileUpload, HideFile, Mark, Mode, Record, Retention, Rule,
+    Action, Bucket, ChangeOf, DigestRule, FileUpload, HideFile, Mark, Mode, Record, Retention,
 };
 use name_rules::{BucketName, FileName, InfoPairs, bucket_name, file_name, info_pairs};
 use std::alloc::Global;
@@ -43,7 +43,6 @@ fn info(alloc: Global) -> Result<InfoPairs, Fail> {
 }
 
 fn bucket(alloc: Global, lock: bool) -> Result<Bucket, Fail> {
-    let rules: Vec<Rule> = Vec::new(alloc);
     Ok(Bucket {
         num: BucketNum::new(1).ok_or("bucket")?,
         name: name_of_bucket(alloc)?,
@@ -52,7 +51,7 @@ fn bucket(alloc: Global, lock: bool) -> Result<Bucket, Fail> {
         lock,
         default: None,
         info: info(alloc)?,
-        rules: List::of(rules),
+        rules: List::of(Vec::new(alloc)),
     })
 }
 
