@@ -36,7 +36,7 @@ past_it prefix t f upto some begins = ap is_gt (upto_less prefix t (raised f) up
 pub name_from : (prefix : List ℕ) (bucket : ℕ) (name : List ℕ) → begins_with prefix name ≡ true → IsFromPrefix prefix (after_name bucket name)
 name_from prefix bucket name begins = begins_upto prefix (name ++ 0 ∷ []) (begins_more prefix name (0 ∷ []) begins)
 
-version_from : (prefix : List ℕ) (bucket : ℕ) (name : List ℕ) (n : ℕ) → begins_with prefix name ≡ true → IsFromPrefix prefix (after_version bucket name n)
+pub version_from : (prefix : List ℕ) (bucket : ℕ) (name : List ℕ) (n : ℕ) → begins_with prefix name ≡ true → IsFromPrefix prefix (after_version bucket name n)
 version_from prefix bucket name zero begins = name_from prefix bucket name begins
 version_from prefix bucket name (suc n) begins = begins_upto prefix name begins
 
@@ -123,24 +123,25 @@ module _ {C : Type 0} (P : VersionOf C → Bool) (R : List (VersionOf C)) (up : 
       subst (λ l. Stands P R ask all l next) (ap (λ x. items ++ x ∷ []) shown_row ∙ sym more_same)
       (subst (Stands P R ask all (items ++ page_row (or_file r (folder_of_name ask.prefix ask.delimiter r.name)) ∷ [])) (sym next_same) turn)
 
+pub begin_bucket : (ask : Ask) (num : Option ℕ) → (begin_at ask num).bucket ≡ ask.bucket
+begin_bucket ask num = ⊎_elim
+    (λ (below : is_lt (cmp ask.start ask.prefix) ≡ true). rw below refl)
+    (λ (other : is_lt (cmp ask.start ask.prefix) ≡ false). rw other (inside (folder_of_name ask.prefix ask.delimiter ask.start)))
+    (cases_Bool (is_lt (cmp ask.start ask.prefix)))
+  where
+    inside : (f : Option (List ℕ)) → (in_folder ask.bucket ask.start num f).bucket ≡ ask.bucket
+    inside None = by num where
+      by : (n : Option ℕ) → (at_number ask.bucket ask.start n).bucket ≡ ask.bucket
+      by None = refl
+      by (Some n) = refl
+    inside (Some f) = ⊎_elim (λ (same : bytes_eq f ask.start ≡ true). rw same refl) (λ (other : bytes_eq f ask.start ≡ false). rw other refl) (cases_Bool (bytes_eq f ask.start))
+
 pub at_begin : {C : Type 0} (P : VersionOf C → Bool) (R : List (VersionOf C)) → InOrder R → AreLow R → (ask : Ask) → IsDelimiter ask.delimiter → Stands P R ask (map page_row (asked_rows (listing_of ask) (filter P R))) [] (begin_at ask ask.start_num)
 at_begin P R up low ask given = record {
-  bucket = begin_bucket;
+  bucket = begin_bucket ask ask.start_num;
   from = begin_from ask.prefix ask.delimiter given ask.bucket ask.start ask.start_num;
   split = ap (map page_row) (sym (whole ask.prefix ask.delimiter given P R up low ask.bucket ask.start ask.start_num));
-} where
-  inside : (f : Option (List ℕ)) → (in_folder ask.bucket ask.start ask.start_num f).bucket ≡ ask.bucket
-  inside None = by ask.start_num where
-    by : (n : Option ℕ) → (at_number ask.bucket ask.start n).bucket ≡ ask.bucket
-    by None = refl
-    by (Some n) = refl
-  inside (Some f) = ⊎_elim (λ (same : bytes_eq f ask.start ≡ true). rw same refl) (λ (other : bytes_eq f ask.start ≡ false). rw other refl) (cases_Bool (bytes_eq f ask.start))
-
-  begin_bucket : (begin_at ask ask.start_num).bucket ≡ ask.bucket
-  begin_bucket = ⊎_elim
-      (λ (below : is_lt (cmp ask.start ask.prefix) ≡ true). rw below refl)
-      (λ (other : is_lt (cmp ask.start ask.prefix) ≡ false). rw other (inside (folder_of_name ask.prefix ask.delimiter ask.start)))
-      (cases_Bool (is_lt (cmp ask.start ask.prefix)))
+}
 
 all_count : {C : Type 0} (R : List (VersionOf C)) → AllByRecursion (λ (v : VersionOf C). true ≡ true) R
 all_count [] = tt

@@ -22,7 +22,7 @@ use Rattle.listing_pages.proofs.Starts.{begins_itself, kept_at, less_upto, not_a
 use Rattle.listing_pages.proofs.Turns.{AreLow, InOrPast, at_later, from_place, implied, in_or_past, names_upto, once_out, one_folder, past_after}
 
 -- two filters in either order
-exchanged : {X : Type 0} (p q : X → Bool) (xs : List X) → filter p (filter q xs) ≡ filter q (filter p xs)
+pub exchanged : {X : Type 0} (p q : X → Bool) (xs : List X) → filter p (filter q xs) ≡ filter q (filter p xs)
 exchanged p q [] = refl
 exchanged p q (x ∷ xs) = ⊎_elim
     (λ (is : q x ≡ true). ⊎_elim

@@ -1,6 +1,9 @@
+pub mod Currents
 pub mod Gather
 pub mod InFolders
+pub mod Late
 pub mod Left
+pub mod NameTurns
 pub mod Names
 pub mod Paged
 pub mod Shown

@@ -44,7 +44,7 @@ module _ {C : Type 0} where
     by Equal e = ap is_gt e
     by Greater e = absurd (let no_order : false ≡ true = rw e at is in false≢true no_order)
 
-  before_by_name : (v w : VersionOf C) → cmp v.name w.name ≡ Less → is_before v w ≡ true
+  pub before_by_name : (v w : VersionOf C) → cmp v.name w.name ≡ Less → is_before v w ≡ true
   before_by_name v w low = rw low refl
 
   -- what follows a version at a place is after it too

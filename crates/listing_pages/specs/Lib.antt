@@ -1,3 +1,4 @@
+pub mod NameRows
+pub mod Orders
 pub mod PageOf
 pub mod Places
-pub mod Orders

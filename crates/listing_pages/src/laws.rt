@@ -1,13 +1,17 @@
 //! What seeks may pass over.
 
-ghost use Rattle.std.specs.Prelude.{◌≡◌, ◌≢◌, ◌<◌, ◌≤◌, ℕ, List, Option, None, Some, IsTrue, true, false, length};
+ghost use Rattle.std.specs.Prelude.{◌≡◌, ◌≢◌, ◌<◌, ◌≤◌, ℕ, List, Option, None, Some, IsTrue, true, false, find, length};
 ghost use Rattle.std.specs.Ordering.{is_gt, nat_cmp};
 ghost use Rattle.std.specs.Cmp.Lexicographic.{slice_cmp};
 ghost use Rattle.b2_model.specs.Pages.{folder, is_from};
 ghost use Rattle.name_rules.specs.Folder.{begins_with, folder_in};
 ghost use Rattle.b2_base.specs.declared.numbers.TheConstants.{LAST_VERSION};
 ghost use Rattle.b2_types.specs.declared.version.VersionOf.{VersionOf as TheVersion};
+ghost use Rattle.b2_model.specs.Current.{current_in};
+ghost use Rattle.b2_model.specs.Kinds.{is_start};
 ghost use Rattle.b2_model.specs.Rows.{is_before};
+ghost use Rattle.version_index.specs.declared.spot.Spot.{Spot as Place};
+ghost use Rattle.listing_pages.specs.NameRows.{StartsBefore};
 ghost use Rattle.listing_pages.specs.Orders.{is_past};
 ghost use Rattle.listing_pages.specs.Places.{after_folder, after_version, at_or_after};
 
@@ -36,4 +40,12 @@ pub fn starts_and_folders<C>()
         → folder_in prefix delimiter start ≡ None → folder_in prefix delimiter name ≡ Some f
         → is_gt (slice_cmp nat_cmp start name) ≡ false
         → is_from {C = C} start num (folder f) ≡ true }
+{}
+
+/// The first row from a place on is the current version of its name, where it is no start and only starts
+/// of its name stand before.
+pub fn current_from_a_place<C>()
+    ensures { (s : Place) (versions : List (TheVersion C)) (v : TheVersion C)
+        → StartsBefore s versions → find (at_or_after s) versions ≡ Some v
+        → is_start v.action ≡ false → current_in versions v.name ≡ Some v }
 {}

@@ -7,8 +7,10 @@ mod laws;
 mod page;
 mod places;
 mod versions;
+mod visible;
 
 pub use ask::Ask;
-pub use laws::{folder_in_one_seek, names_of_a_folder, starts_and_folders};
+pub use laws::{current_from_a_place, folder_in_one_seek, names_of_a_folder, starts_and_folders};
 pub use page::{Page, PageRow};
 pub use versions::versions_page;
+pub use visible::names_page;
