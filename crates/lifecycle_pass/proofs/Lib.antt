@@ -1,3 +1,4 @@
 pub mod Walks
 pub mod Overlaps
 pub mod NoFault
+pub mod OtherNames

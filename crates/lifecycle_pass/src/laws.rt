@@ -1,0 +1,18 @@
+//! Laws of a pass.
+
+ghost use Rattle.std.specs.Prelude.{◌≡◌, ℕ, List, Option};
+ghost use Rattle.b2_types.specs.declared.bucket.Rule.{Rule};
+ghost use Rattle.b2_model.specs.State.{State};
+ghost use Rattle.b2_model.specs.Pass.{pass_on};
+ghost use Rattle.lifecycle_pass.specs.Names.{AreNumbered, others};
+
+/// What a pass does to a name leaves the versions of every other name as they are, and numbers stay
+/// those of one name each.
+#[tactic(auto, using(crate::proofs::OtherNames::others_stay, crate::proofs::OtherNames::numbers_stay))]
+pub fn other_names_stay<C>()
+    ensures versions { (t bucket : ℕ) (name : List ℕ) (rule : Option Rule) (M : State C)
+        → AreNumbered M → others bucket name (pass_on t bucket name rule M).versions
+        ≡ others bucket name M.versions }
+    ensures numbers { (t bucket : ℕ) (name : List ℕ) (rule : Option Rule) (M : State C)
+        → AreNumbered M → AreNumbered (pass_on t bucket name rule M) }
+{}
