@@ -1,5 +1,5 @@
 -- A pass on one name leaves the others.
-use Rattle.std.proofs.Common.{◌≡◌, ◌⊎◌, inl, inr, ℕ, ◌+◌, ◌<◌, ◌≤◌, max, Bool, true, false, not, cond, ◌&&◌, ◌||◌, ◌==◌, nat_lt, nat_le, List, [], ◌∷◌, ◌++◌, Option, Some, None, All, Contains, bytes_eq, if◌then◌else◌, refl, sym, ap, ◌∙◌, arith}
+use Rattle.std.proofs.Common.{◌≡◌, ◌⊎◌, inl, inr, ℕ, ◌+◌, ◌<◌, max, Bool, true, false, not, cond, ◌&&◌, ◌||◌, ◌==◌, nat_lt, nat_le, List, [], ◌∷◌, ◌++◌, Option, Some, None, All, Contains, bytes_eq, if◌then◌else◌, refl, sym, ap, ◌∙◌, arith}
 use Rattle.std.specs.Prelude.{filter, fold}
 use Rattle.std.specs.List.{list_any}
 use Rattle.std.proofs.lemmas.Bool.Decides.{nat_tests}
@@ -11,15 +11,15 @@ use Rattle.b2_types.specs.declared.version.VersionOf.{VersionOf}
 use Rattle.b2_model.specs.Kinds.{is_hide, is_start}
 use Rattle.b2_model.specs.Lists.{put_by}
 use Rattle.b2_model.specs.State.{State}
-use Rattle.b2_model.specs.Rows.{is_before, put_row, listing_order, rows}
+use Rattle.b2_model.specs.Rows.{is_before, put_row, rows}
 use Rattle.b2_model.specs.Version.{marker, with_version}
-use Rattle.b2_model.specs.Pass.{has_aged, is_due, goes_under, lower_drops, all_go, drops, is_same, without_versions, with_due_hide, of_name, cancels, pass_on}
+use Rattle.b2_model.specs.Pass.{has_aged, is_due, goes_under, lower_drops, all_go, drops, is_same, without_versions, of_name, cancels, pass_on}
 use Rattle.lifecycle_pass.specs.Names.{is_of, others, AreNumbered}
 
 -- ---- lists
 
 module _ {X : Type 0} where
-  both : (P Q : X → Type 0) (xs : List X) → All P xs → All Q xs → All (λ x. P x × Q x) xs
+  pub both : (P Q : X → Type 0) (xs : List X) → All P xs → All Q xs → All (λ x. P x × Q x) xs
   both P Q xs first second k d within = (first k d within, second k d within)
 
   -- what is put among the others, and does not pass
@@ -58,14 +58,14 @@ module _ {X : Type 0} where
       by_case false true is passes within rest = absurd (false≢true (sym is ∙ within passes))
       by_case false false is passes within rest = rest ∙ ap (λ b. cond b (x ∷ filter p xs) (filter p xs)) (sym passes)
 
-  none_any : (p : X → Bool) (xs : List X) → All (λ x. p x ≡ false) xs → list_any p xs ≡ false
+  pub none_any : (p : X → Bool) (xs : List X) → All (λ x. p x ≡ false) xs → list_any p xs ≡ false
   none_any p [] all = refl
   none_any p (x ∷ xs) all = ap (λ b. b || list_any p xs) (All-head (λ x. p x ≡ false) x xs all) ∙ none_any p xs (All-tail (λ x. p x ≡ false) x xs all)
 
 -- ---- what a pass takes
 
 module _ {C : Type 0} where
-  row_all : (P : (VersionOf C) → Type 0) (v : (VersionOf C)) (vs : List (VersionOf C)) → P v → All P vs → All P (put_row v vs)
+  pub row_all : (P : (VersionOf C) → Type 0) (v : (VersionOf C)) (vs : List (VersionOf C)) → P v → All P vs → All P (put_row v vs)
   row_all P v [] here all = All-cons P v [] here all
   row_all P v (w ∷ ws) here all = by_case (is_before v w) (row_all P v ws here (All-tail P w ws all))
     where
@@ -73,17 +73,17 @@ module _ {C : Type 0} where
       by_case true rest = All-cons P v (w ∷ ws) here all
       by_case false rest = All-cons P w (put_row v ws) (All-head P w ws all) rest
 
-  order_all : (P : (VersionOf C) → Type 0) (vs done : List (VersionOf C)) → All P vs → All P done → All P (fold (λ ws v. put_row v ws) done vs)
+  pub order_all : (P : (VersionOf C) → Type 0) (vs done : List (VersionOf C)) → All P vs → All P done → All P (fold (λ ws v. put_row v ws) done vs)
   order_all P [] done all so_far = so_far
   order_all P (v ∷ vs) done all so_far = order_all P vs (put_row v done) (All-tail P v vs all) (row_all P v done (All-head P v vs all) so_far)
 
-  rows_all : (P : (VersionOf C) → Type 0) (M : State C) (bucket : ℕ) → All P M.versions → All P (rows M bucket)
+  pub rows_all : (P : (VersionOf C) → Type 0) (M : State C) (bucket : ℕ) → All P M.versions → All P (rows M bucket)
   rows_all P M bucket all = order_all P (filter (λ v. v.bucket == bucket) M.versions) [] (All-filter (λ v. v.bucket == bucket) P M.versions all) (All-nil P)
 
-  rows_of : (M : State C) (bucket : ℕ) → All (λ v. (v.bucket == bucket) ≡ true) (rows M bucket)
+  pub rows_of : (M : State C) (bucket : ℕ) → All (λ v. (v.bucket == bucket) ≡ true) (rows M bucket)
   rows_of M bucket = order_all (λ v. (v.bucket == bucket) ≡ true) (filter (λ v. v.bucket == bucket) M.versions) [] (filter_passes (λ v. v.bucket == bucket) M.versions) (All-nil (λ v. (v.bucket == bucket) ≡ true))
 
-  lower_all : (P : (VersionOf C) → Type 0) (t : ℕ) (rule : Rule) (above : (VersionOf C)) (vs : List (VersionOf C)) → All P vs → All P (lower_drops t rule above vs)
+  pub lower_all : (P : (VersionOf C) → Type 0) (t : ℕ) (rule : Rule) (above : (VersionOf C)) (vs : List (VersionOf C)) → All P vs → All P (lower_drops t rule above vs)
   lower_all P t rule above [] all = all
   lower_all P t rule above (v ∷ vs) all = by_case (goes_under t rule above v) (lower_all P t rule v vs (All-tail P v vs all))
     where
@@ -91,7 +91,7 @@ module _ {C : Type 0} where
       by_case true rest = All-cons P v (lower_drops t rule v vs) (All-head P v vs all) rest
       by_case false rest = rest
 
-  drops_all : (P : (VersionOf C) → Type 0) (t : ℕ) (rule : Rule) (vs : List (VersionOf C)) → All P vs → All P (drops t rule vs)
+  pub drops_all : (P : (VersionOf C) → Type 0) (t : ℕ) (rule : Rule) (vs : List (VersionOf C)) → All P vs → All P (drops t rule vs)
   drops_all P t rule [] all = all
   drops_all P t rule (v ∷ vs) all = by_case (is_hide v.action && all_go t rule v vs && has_aged t v.stamp rule.delete_days) (lower_all P t rule v vs (All-tail P v vs all))
     where
@@ -101,10 +101,10 @@ module _ {C : Type 0} where
 
   module _ (bucket : ℕ) (name : List ℕ) where
     -- a version of this name that stands
-    abbrev Here : State C → (VersionOf C) → Type 0
+    abbrev pub Here : State C → (VersionOf C) → Type 0
     Here N v = Contains N.versions v × (is_of bucket name v ≡ true)
 
-    named_here : (N : State C) → All (Here N) (of_name N bucket name)
+    pub named_here : (N : State C) → All (Here N) (of_name N bucket name)
     named_here N =
         let p : (VersionOf C) → Bool = λ v. bytes_eq v.name name && not (is_start v.action) in
         let stand = All-filter p (Contains N.versions) (rows N bucket) (rows_all (Contains N.versions) N bucket (All-contains_itself N.versions)) in
@@ -113,7 +113,7 @@ module _ {C : Type 0} where
         let is_it = All-weaker (λ v. ((v.bucket == bucket) ≡ true) × (p v ≡ true)) (λ v. is_of bucket name v ≡ true) (λ v both. and_from (v.bucket == bucket) (bytes_eq v.name name) both.0 (and_parts (bytes_eq v.name name) (not (is_start v.action)) both.1).0) (of_name N bucket name) of_it in
         both (Contains N.versions) (λ v. is_of bucket name v ≡ true) (of_name N bucket name) stand is_it
 
-    cancelled_here : (t : ℕ) (rule : Rule) (M : State C) → All (Here M) (cancels M t bucket rule name)
+    pub cancelled_here : (t : ℕ) (rule : Rule) (M : State C) → All (Here M) (cancels M t bucket rule name)
     cancelled_here t rule M =
         let p : (VersionOf C) → Bool = λ v. v.bucket == bucket && bytes_eq v.name name && is_start v.action && has_aged t v.stamp rule.cancel_days in
         let stand = All-filter p (Contains M.versions) M.versions (All-contains_itself M.versions) in
@@ -200,16 +200,16 @@ module _ {C : Type 0} where
 
       -- the state with the marker, where it is due, and what goes of it
       module _ (rule : Rule) (M : State C) where
-        abbrev due : Bool
+        abbrev pub due : Bool
         due = is_due t rule (of_name M bucket name) && nat_le M.next_version M.settings.last_version
 
-        abbrev N : State C
+        abbrev pub N : State C
         N = if due then with_version (marker bucket M.next_version name t) M else M
 
-        abbrev gone : List (VersionOf C)
+        abbrev pub gone : List (VersionOf C)
         gone = cancels M t bucket rule name ++ drops t rule (of_name N bucket name)
 
-        gone_here : All (Here N) gone
+        pub gone_here : All (Here N) gone
         gone_here =
             All-append (Here N) (cancels M t bucket rule name) (drops t rule (of_name N bucket name))
             (All-weaker (Here M) (Here N) (λ v here. (due_here due M v here.0, here.1)) (cancels M t bucket rule name) (cancelled_here t rule M))
