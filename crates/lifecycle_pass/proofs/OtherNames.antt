@@ -49,7 +49,7 @@ module _ {X : Type 0} where
       by_case false rest all = All-cons P y ys (All-head P y (put_by num x ys) all) (rest (All-tail P y (put_by num x ys) all))
 
   -- what passes the second test passes the first
-  filter_within : (p q : X → Bool) (xs : List X) → All (λ x. p x ≡ true → q x ≡ true) xs → filter p (filter q xs) ≡ filter p xs
+  pub filter_within : (p q : X → Bool) (xs : List X) → All (λ x. p x ≡ true → q x ≡ true) xs → filter p (filter q xs) ≡ filter p xs
   filter_within p q [] all = refl
   filter_within p q (x ∷ xs) all = by_case (q x) (p x) refl refl (All-head (λ x. p x ≡ true → q x ≡ true) x xs all) (filter_within p q xs (All-tail (λ x. p x ≡ true → q x ≡ true) x xs all))
     where

@@ -26,7 +26,7 @@ use Rattle.lifecycle_pass.proofs.OtherNames.{rows_all, Here, due, N, gone, gone_
 -- ---- lists
 
 module _ {X : Type 0} where
-  filter_twice : (p q : X → Bool) (xs : List X) → filter q (filter p xs) ≡ filter (λ x. p x && q x) xs
+  pub filter_twice : (p q : X → Bool) (xs : List X) → filter q (filter p xs) ≡ filter (λ x. p x && q x) xs
   filter_twice p q [] = refl
   filter_twice p q (x ∷ xs) = by_case (p x) (filter_twice p q xs)
     where
