@@ -60,7 +60,8 @@ fn id_of(bucket: BucketNum, num: VersionNum) -> VersionId
     VersionId { bucket, num }
 }
 
-fn file_of(text: &str) -> Option<VersionId>
+/// The file whose id the text is.
+pub fn file_of(text: &str) -> Option<VersionId>
     ensures { result ≡ file_of text.now }
 {
     let Some(pair) = FileId::read(text.as_bytes()) else {

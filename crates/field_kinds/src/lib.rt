@@ -12,9 +12,11 @@ mod rules;
 mod texts;
 
 pub use info::{info_at, optional_info};
+pub use kinds::file_of;
 pub use offered::{idle_encryption, idle_list, idle_value};
 pub use reader::{
-    FromJson, needed, needed_number, needed_u32, optional, optional_number, optional_u32, wrong,
+    FromJson, missing, needed, needed_number, needed_u32, optional, optional_number, optional_u32,
+    wrong,
 };
 pub use retention::optional_retention;
 pub use rules::optional_rules;

@@ -23,7 +23,7 @@ pub trait FromJson: Sized {
 }
 
 /// The field is not there, or null.
-pub(crate) fn missing(alloc: Global, key: &str) -> Result<Fault, Memory>
+pub fn missing(alloc: Global, key: &str) -> Result<Fault, Memory>
     ensures { IfOk result (λ f. f ≡ missing key.now) }
 {
     let key = Text::copy(alloc, key)?;

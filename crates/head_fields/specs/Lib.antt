@@ -1,2 +1,3 @@
 pub mod Query
 pub mod Token
+pub mod Downloads

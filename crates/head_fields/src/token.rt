@@ -8,7 +8,8 @@ use b2_base::{Memory, Text};
 use std::alloc::Global;
 use wire_forms::Request;
 
-fn text_of(alloc: Global, bytes: &[u8]) -> Result<Text, Memory>
+/// The text that the bytes are; other bytes count as the empty text.
+pub(crate) fn text_of(alloc: Global, bytes: &[u8]) -> Result<Text, Memory>
     ensures { IfOk result (λ t. IsTextOf bytes.now t) }
 {
     let Ok(text) = str::from_utf8(bytes) else {
