@@ -9,7 +9,7 @@ use Rattle.b2_model.specs.State.{State}
 use Rattle.b2_model.specs.Changes.{after_record}
 use Rattle.b2_model.specs.Ask.{with_grant}
 use Rattle.b2_model.specs.Stored.{stored_part, applies_change, is_snap_state, Replayed, replay_one, replay_on, record_at}
-use Rattle.step_records.specs.StepRecords.{logged}
+use Rattle.step_records.specs.StepRecords.{log_state}
 use Rattle.step_records.proofs.Passed.{passed_stored}
 
 module _ {C : Type 0} where
@@ -30,10 +30,10 @@ module _ {C : Type 0} where
 
   -- a replay goes on with one record
   pub goes_on : (M : State C) (t : ℕ) (ch : ChangeOf C) (rs : List (RecordOf C)) → applies_change M ch ≡ true → is_snap_state ch ≡ false → M.kept ≤ t
-      → replay_on (logged M) (record_at t ch ∷ rs) ≡ replay_on (logged (after_record M (record_at t ch))) rs
+      → replay_on (log_state M) (record_at t ch ∷ rs) ≡ replay_on (log_state (after_record M (record_at t ch))) rs
   goes_on M t ch rs fits other later =
       let not_before : nat_lt t M.kept ≡ false = grind (arith, nat_tests, later) in
-      ap (λ b. if b && not (true && (is_snap_state ch || nat_lt t M.kept)) then replay_on (replay_one (logged M) (record_at t ch)) rs else None) (applies_stored M ch ∙ fits)
-      ∙ ap (λ b. if true && not (true && (b || nat_lt t M.kept)) then replay_on (replay_one (logged M) (record_at t ch)) rs else None) other
-      ∙ ap (λ b. if true && not (true && (false || b)) then replay_on (replay_one (logged M) (record_at t ch)) rs else None) not_before
+      ap (λ b. if b && not (true && (is_snap_state ch || nat_lt t M.kept)) then replay_on (replay_one (log_state M) (record_at t ch)) rs else None) (applies_stored M ch ∙ fits)
+      ∙ ap (λ b. if true && not (true && (b || nat_lt t M.kept)) then replay_on (replay_one (log_state M) (record_at t ch)) rs else None) other
+      ∙ ap (λ b. if true && not (true && (false || b)) then replay_on (replay_one (log_state M) (record_at t ch)) rs else None) not_before
       ∙ ap (λ S. replay_on (log_of S) rs) (changed_stored M t ch)

@@ -15,7 +15,7 @@ use Rattle.machine_laws.specs.Days.{is_due}
 use Rattle.sound_states.specs.Sound.{IsSound}
 use Rattle.sound_steps.specs.FitSteps.{IsFitStep}
 use Rattle.sound_steps.proofs.Outcomes.{step_sound}
-use Rattle.step_records.specs.StepRecords.{record_of, pass_records, end_change, end_records, ask_change, records_of, records_of_run, logged}
+use Rattle.step_records.specs.StepRecords.{record_of, pass_records, end_change, end_records, ask_change, records_of, records_of_run, log_state}
 use Rattle.step_records.specs.Fronts.{IsReached}
 use Rattle.step_records.proofs.Changed.{log_of}
 use Rattle.step_records.proofs.Steps.{step_goes_on, then_goes_on}
@@ -87,14 +87,14 @@ module _ {C : Type 0} where
     -- what a front of a step's records replays as
     abbrev Reaches : Progress C → Step C → List (RecordOf C) → Type 0
     Reaches P s front =
-        (S : State C) × (replay_on (logged P.state) front ≡ Some (log_of S))
+        (S : State C) × (replay_on (log_state P.state) front ≡ Some (log_of S))
         × ((S ≡ stored_part P.state) ⊎ (((reading : ℕ) × (S ≡ stored_part (step K P (passes reading)).state)) ⊎ (S ≡ stored_part (step K P s).state)))
 
     reaches : (P : Progress C) (s : Step C) (reading : ℕ) (front : List (RecordOf C)) → IsSound P.state → IsFitStep s → Parts (record_at (moment P.state reading) change.Pass) (records_of K P s) front → Reaches P s front
-    reaches P s reading front sound fit (inl is) = (stored_part P.state, ap (replay_on (logged P.state)) is, inl refl)
+    reaches P s reading front sound fit (inl is) = (stored_part P.state, ap (replay_on (log_state P.state)) is, inl refl)
     reaches P s reading front sound fit (inr (inl is)) =
-        (stored_part (step K P (passes reading)).state, ap (replay_on (logged P.state)) is ∙ step_goes_on K P (passes reading) sound tt, inr (inl (reading, refl)))
-    reaches P s reading front sound fit (inr (inr is)) = (stored_part (step K P s).state, ap (replay_on (logged P.state)) is ∙ step_goes_on K P s sound fit, inr (inr refl))
+        (stored_part (step K P (passes reading)).state, ap (replay_on (log_state P.state)) is ∙ step_goes_on K P (passes reading) sound tt, inr (inl (reading, refl)))
+    reaches P s reading front sound fit (inr (inr is)) = (stored_part (step K P s).state, ap (replay_on (log_state P.state)) is ∙ step_goes_on K P s sound fit, inr (inr refl))
 
     abbrev pass_at : Progress C → ℕ → RecordOf C
     pass_at P reading = record_at (moment P.state reading) change.Pass
@@ -129,7 +129,7 @@ module _ {C : Type 0} where
     -- ---- a run
 
     abbrev Replays : Progress C → List (Step C) → List (RecordOf C) → Type 0
-    Replays P steps front = (S : State C) × (replay_on (logged P.state) front ≡ Some (log_of S)) × IsReached K P steps S
+    Replays P steps front = (S : State C) × (replay_on (log_state P.state) front ≡ Some (log_of S)) × IsReached K P steps S
 
     here : (P : Progress C) (s : Step C) (steps : List (Step C)) (front : List (RecordOf C)) → Reaches P s front → Replays P (s ∷ steps) front
     here P s steps front (S, replayed, inl is) = (S, replayed, record { earlier = []; later = s ∷ steps; both = refl; state = inl is })
@@ -139,7 +139,7 @@ module _ {C : Type 0} where
     later : (P : Progress C) (s : Step C) (steps : List (Step C)) (front more : List (RecordOf C)) → IsSound P.state → IsFitStep s → front ≡ records_of K P s ++ more → Replays (step K P s) steps more → Replays P (s ∷ steps) front
     later P s steps front more sound fit is (S, replayed, reached) = (
       S,
-      ap (replay_on (logged P.state)) is ∙ then_goes_on K P s more sound fit ∙ replayed,
+      ap (replay_on (log_state P.state)) is ∙ then_goes_on K P s more sound fit ∙ replayed,
       record { earlier = s ∷ reached.earlier; later = reached.later; both = ap (λ l. s ∷ l) reached.both; state = reached.state },
     )
 
@@ -150,7 +150,7 @@ module _ {C : Type 0} where
     by_cut P s steps front rest sound fit goes (inr at) = here P s steps front (step_fronts P s front at.0 sound fit at.1)
 
     pub run_fronts : (P : Progress C) (steps : List (Step C)) (front rest : List (RecordOf C)) → IsSound P.state → All IsFitStep steps → records_of_run K P steps ≡ front ++ rest → Replays P steps front
-    run_fronts P [] front rest sound fit is = (stored_part P.state, ap (replay_on (logged P.state)) (none front rest is), record { earlier = []; later = []; both = refl; state = inl refl })
+    run_fronts P [] front rest sound fit is = (stored_part P.state, ap (replay_on (log_state P.state)) (none front rest is), record { earlier = []; later = []; both = refl; state = inl refl })
     run_fronts P (s ∷ steps) front rest sound fit is =
         let first = All-head IsFitStep s steps fit in
         by_cut P s steps front rest sound first (λ more same. run_fronts (step K P s) steps more rest (step_sound K P s sound first) (All-tail IsFitStep s steps fit) same)

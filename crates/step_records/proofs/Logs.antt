@@ -10,11 +10,11 @@ use Rattle.sound_steps.specs.FitSteps.{IsFitStep}
 use Rattle.snapshot_laws.proofs.Replayed.{before_numbers}
 use Rattle.snapshot_laws.proofs.Snapshots.{entries_after, settles}
 use Rattle.contents_steps.proofs.Replays.{on_more}
-use Rattle.step_records.specs.StepRecords.{records_of_run, logged}
+use Rattle.step_records.specs.StepRecords.{records_of_run, log_state}
 use Rattle.step_records.proofs.Steps.{run_goes_on}
 
 module _ {C : Type 0} where
-  pub log_goes_on : (M : State C) (more : List (RecordOf C)) → IsSound M → replay (snapshot (stored_part M) ++ more) ≡ option_map (λ R. R.state) (replay_on (logged M) more)
+  pub log_goes_on : (M : State C) (more : List (RecordOf C)) → IsSound M → replay (snapshot (stored_part M) ++ more) ≡ option_map (λ R. R.state) (replay_on (log_state M) more)
   log_goes_on M more sound =
       ap (option_map (λ R. R.state))
       (on_more (before_numbers (state_of_settings M.settings M.kept)) (entries_after (stored_part M)) more ∙ ap (option_and_then (λ R. replay_on R more)) (settles M sound))

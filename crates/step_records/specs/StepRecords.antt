@@ -61,8 +61,8 @@ records_of_run K P [] = []
 records_of_run K P (s ∷ steps) = records_of K P s ++ records_of_run K (step K P s) steps
 
 -- what a log stands for that is read up to this state
-abbrev pub logged : {C : Type 0} → State C → Replayed C
-logged M = record { state = stored_part M; settled = true }
+abbrev pub log_state : {C : Type 0} → State C → Replayed C
+log_state M = record { state = stored_part M; settled = true }
 
 -- ---- what each record tells
 

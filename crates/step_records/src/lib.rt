@@ -10,7 +10,7 @@ ghost use Rattle.b2_model.specs.Stored.{stored_part, snapshot, is_snap_state, re
 ghost use Rattle.b2_model.specs.Run.{Step, Progress, step, run};
 ghost use Rattle.sound_states.specs.Sound.{IsSound, IsFitChange};
 ghost use Rattle.sound_steps.specs.FitSteps.{IsFitStep};
-ghost use Rattle.step_records.specs.StepRecords.{records_of, records_of_run, logged, moment_of, AreNext};
+ghost use Rattle.step_records.specs.StepRecords.{records_of, records_of_run, log_state, moment_of, AreNext};
 ghost use Rattle.step_records.specs.Fronts.{IsReached};
 
 /// A replay goes on with the records of a step to the stored part after it, and with those of a run
@@ -18,11 +18,11 @@ ghost use Rattle.step_records.specs.Fronts.{IsReached};
 #[tactic(auto)]
 pub fn replays_go_on_with_steps<C>()
     ensures step { (K : Pieces C) (P : Progress C) (s : Step C) → IsSound P.state → IsFitStep s
-        → replay_on (logged P.state) (records_of K P s) ≡ Some (logged (step K P s).state) }
+        → replay_on (log_state P.state) (records_of K P s) ≡ Some (log_state (step K P s).state) }
     ensures run { (K : Pieces C) (P : Progress C) (steps : List (Step C))
         → IsSound P.state → All IsFitStep steps
-        → replay_on (logged P.state) (records_of_run K P steps)
-        ≡ Some (logged (fold (step K) P steps).state) }
+        → replay_on (log_state P.state) (records_of_run K P steps)
+        ≡ Some (log_state (fold (step K) P steps).state) }
 {}
 
 /// A log that begins with a snapshot and goes on with the records of a run replays as the stored
@@ -31,7 +31,7 @@ pub fn replays_go_on_with_steps<C>()
 pub fn logs_replay<C>()
     ensures go_on { (M : State C) (more : List (RecordOf C)) → IsSound M
         → replay (snapshot (stored_part M) ++ more)
-        ≡ option_map (λ R. R.state) (replay_on (logged M) more) }
+        ≡ option_map (λ R. R.state) (replay_on (log_state M) more) }
     ensures run { (K : Pieces C) (P : Progress C) (steps : List (Step C))
         → IsSound P.state → All IsFitStep steps
         → replay (snapshot (stored_part P.state) ++ records_of_run K P steps)
@@ -62,6 +62,6 @@ pub fn fronts_of_logs_replay<C>()
     ensures { (K : Pieces C) (P : Progress C) (steps : List (Step C))
         (front rest : List (RecordOf C)) → IsSound P.state → All IsFitStep steps
         → records_of_run K P steps ≡ front ++ rest
-        → ((S : State C) × (replay_on (logged P.state) front
+        → ((S : State C) × (replay_on (log_state P.state) front
         ≡ Some (record { state = S; settled = true })) × IsReached K P steps S) }
 {}
