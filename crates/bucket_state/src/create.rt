@@ -78,8 +78,8 @@ fn make(alloc: Global, next: BucketNum, call: &CreateBucket) -> Result<Bucket, M
     })
 }
 
-/// What the making of a bucket comes to, beside all that stand: the record of the bucket of the next
-/// number, or the first rule that refuses it.
+/// What the making of a bucket comes to, beside all that stand: the record of the bucket of the
+/// next number, or the first rule that refuses it.
 pub fn buckets_create(
     alloc: Global,
     all: &[Bucket],

@@ -14,8 +14,8 @@ use crate::refusal::BucketRefusal;
 use b2_base::Moment;
 use b2_types::{Bucket, ChangeOf, Record, RecordOf};
 
-/// What the deletion of a bucket comes to, for the bucket that the call names: its record, where no
-/// version stands in it, which `empty` says.
+/// What the deletion of a bucket comes to, for the bucket that the call names: its record, where
+/// no version stands in it, which `empty` says.
 pub fn buckets_remove(bucket: &Bucket, empty: bool, t: Moment) -> Result<Record, BucketRefusal>
     ensures { (M : State TheExtent) (key : Option TheKey) (call : TheDeletion)
         → bucket_at M call.bucket ≡ Some bucket.now

@@ -45,7 +45,8 @@ fn buckets(alloc: Global, many: u32) -> Result<Vec<Bucket>, Fail> {
     Ok(all)
 }
 
-// The number and the revision of the bucket that the record makes or updates, or 0 of one that goes.
+// The number and the revision of the bucket that the record makes or updates, or 0 of one that
+// goes.
 fn written(record: &Record) -> Option<(u32, u64)> {
     match &record.change {
         ChangeOf::BucketMake(bucket) | ChangeOf::BucketUpdate(bucket) => {

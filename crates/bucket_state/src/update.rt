@@ -103,8 +103,9 @@ fn update(alloc: Global, bucket: &Bucket, call: &UpdateBucket) -> Result<Bucket,
     })
 }
 
-/// What the update of a bucket comes to, for the bucket that the call names: the record of the bucket as
-/// it is then, in which what the call does not give stays, or the first rule that refuses it.
+/// What the update of a bucket comes to, for the bucket that the call names: the record of the
+/// bucket as it is then, in which what the call does not give stays, or the first rule that refuses
+/// it.
 pub fn buckets_update(
     alloc: Global,
     bucket: &Bucket,

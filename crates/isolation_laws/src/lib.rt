@@ -1,5 +1,5 @@
-//! Keys that are limited to some buckets, or to names with a prefix in these: what they are answered
-//! depends on their own alone, and of others they learn nothing.
+//! Keys that are limited to some buckets, or to names with a prefix in these: what they are
+//! answered depends on their own alone, and of others they learn nothing.
 #![tactic(auto)]
 
 ghost use Rattle.std.specs.Prelude.{◌≡◌, ℕ, true, false, List, ◌++◌, Option, Some, None, take};
@@ -17,9 +17,9 @@ ghost use Rattle.sound_states.specs.Sound.{IsSound};
 ghost use Rattle.isolation_laws.specs.Agree.{AgreeOnKey, AgreeOnBuckets, AgreeOnNames, AreOneRefusal};
 ghost use Rattle.isolation_laws.specs.Naming.{LooksInto, IsLimitedToOthers, IsLook, NamesWithin, NamesUnder};
 
-/// Whoever is limited to some buckets and looks into these alone is answered alike in any two states
-/// that agree on them: by what stands in other buckets, and by keys and tokens of others, nothing of
-/// the answer changes.
+/// Whoever is limited to some buckets and looks into these alone is answered alike in any two
+/// states that agree on them: by what stands in other buckets, and by keys and tokens of others,
+/// nothing of the answer changes.
 #[tactic(auto)]
 pub fn own_buckets_are_answered_alike<C>()
     ensures { (P : Pieces C) (M N : State C) (t : ℕ) (words : List ℕ) (token : Option (List ℕ))
@@ -50,7 +50,8 @@ pub fn own_tokens_are_known_alike<C>()
 {}
 
 /// A listing of files or parts, or a look at a file, that names a bucket outside of those that the
-/// caller is limited to is refused by P9 where no rule before it fails, whatever stands in that bucket.
+/// caller is limited to is refused by P9 where no rule before it fails, whatever stands in that
+/// bucket.
 #[tactic(auto)]
 pub fn other_buckets_are_refused<C>()
     ensures { (P : Pieces C) (M : State C) (t : ℕ) (words : List ℕ) (token : Option (List ℕ))
