@@ -19,13 +19,13 @@ cmp a b = slice_cmp nat_cmp a b
 
 -- ---- two numbers, as their comparison says
 
-less_from : (m n : ℕ) → nat_cmp m n ≡ Less → m < n
+pub less_from : (m n : ℕ) → nat_cmp m n ≡ Less → m < n
 less_from m n is = rw is at (ranked m n (nat_cmp m n) refl)
 
-same_from : (m n : ℕ) → nat_cmp m n ≡ Equal → m ≡ n
+pub same_from : (m n : ℕ) → nat_cmp m n ≡ Equal → m ≡ n
 same_from m n is = rw is at (ranked m n (nat_cmp m n) refl)
 
-more_from : (m n : ℕ) → nat_cmp m n ≡ Greater → n < m
+pub more_from : (m n : ℕ) → nat_cmp m n ≡ Greater → n < m
 more_from m n is = rw is at (ranked m n (nat_cmp m n) refl)
 
 by_less : (m n : ℕ) (o : Ordering) → nat_cmp m n ≡ o → m < n → nat_cmp m n ≡ Less

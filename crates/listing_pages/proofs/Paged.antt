@@ -28,3 +28,12 @@ few_taken n items all is = omega (arith, ap length is, length-take n all)
 -- a page has all rows but one
 pub one_less : (n : ℕ) (items : List PageRow) (page : Page PageRow) → length items ≤ n + 1 → page ≡ page_of n items → length items ≤ length page.rows + 1
 one_less n items page few is = omega (arith, few, ap (λ p. length p.rows) is, length-take n items)
+
+-- one row more than a page has tells the page
+pub page_taken : {X : Type 0} (n : ℕ) (all items : List X) → items ≡ take (n + 1) all → page_of n items ≡ page_of n all
+page_taken n all items is = two_parts (take n items) (take n all) (slice_get items n) (slice_get all n)
+    (ap (take n) is ∙ take-take n (n + 1) all (omega arith))
+    (ap (λ l. slice_get l n) is ∙ get_front n (n + 1) all (omega arith))
+
+pub page_mapped : {X Y : Type 0} (f : X → Y) (n : ℕ) (xs : List X) → page_of n (map f xs) ≡ record { rows = map f (take n xs); next = option_map f (slice_get xs n) }
+page_mapped f n xs = two_parts (take n (map f xs)) (map f (take n xs)) (slice_get (map f xs) n) (option_map f (slice_get xs n)) (take-map f n xs) (slice_get-map f xs n)

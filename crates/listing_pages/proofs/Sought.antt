@@ -1,5 +1,5 @@
 -- What a seek finds, among the versions of a bucket.
-use Rattle.std.proofs.Common.{◌≡◌, ℕ, ◌≤◌, ◌==◌, ◌&&◌, nat_lt, Bool, true, false, not, cond, List, [], ◌∷◌, Option, None, Some, filter, find, map, subst, sym, ap, ◌∙◌, ⊎_elim, refl, arith, nat_cmp, is_le, is_lt, Less, Equal, Greater}
+use Rattle.std.proofs.Common.{◌≡◌, ℕ, ◌≤◌, ◌==◌, ◌&&◌, nat_lt, Bool, true, false, not, cond, List, [], ◌∷◌, Option, None, Some, filter, find, map, subst, sym, ap, ◌∙◌, ⊎_elim, refl, arith, nat_cmp, is_le, is_lt, Less, Equal, Greater, inl, inr}
 use Rattle.std.specs.Prelude.{option_map}
 use Rattle.std.specs.declared.cmp.Ordering.{Ordering}
 use Rattle.std.specs.List.{AllByRecursion, Contains}
@@ -15,6 +15,8 @@ use Rattle.b2_types.specs.declared.version.VersionOf.{VersionOf}
 use Rattle.b2_model.specs.Rows.{is_before}
 use Rattle.version_index.specs.declared.spot.Spot.{Spot}
 use Rattle.version_index.specs.Rows.{AreAscending, AreInRange, is_from, listing_cmp, row_from}
+use Rattle.version_index.specs.Rows.{placed}
+use Rattle.version_index.proofs.Members.{placed_members}
 use Rattle.index_rows.specs.OwnRows.{AreOwn, of_bucket, spot_of}
 use Rattle.index_rows.proofs.Listed.{before_is}
 use Rattle.index_rows.proofs.Members.{here, later}
@@ -24,7 +26,7 @@ use Rattle.listing_pages.proofs.Shown.{InOrder}
 use Rattle.listing_pages.proofs.Starts.{reversed}
 use Rattle.listing_pages.proofs.Turns.{AreLow}
 
-lower_number : (m n : ℕ) → is_le (nat_cmp m n) ≡ not (nat_lt n m)
+pub lower_number : (m n : ℕ) → is_le (nat_cmp m n) ≡ not (nat_lt n m)
 lower_number m n = ⊎_elim
     (λ (is : nat_lt m n ≡ true). let no_higher : nat_lt n m ≡ false = grind (arith, nat_tests) in rw (is, no_higher) refl)
     (λ (other : nat_lt m n ≡ false). ⊎_elim
@@ -89,3 +91,10 @@ module _ {C : Type 0} where
 
   pub sought_in : (bucket : ℕ) (s : Spot) (rows : List (Spot × VersionOf C)) → s.bucket ≡ bucket → AreOwn rows → find (at_or_after s) (of_bucket bucket rows) ≡ option_map (λ r. r.1) (row_from s rows)
   sought_in bucket s rows is own = ap (λ b. find (at_or_after s) (of_bucket b rows)) (sym is) ∙ sought s rows own
+
+-- a row that is placed at its own spot leaves each at its own
+pub own_placed : {C : Type 0} (rows : List (Spot × VersionOf C)) (s : Spot) (v : VersionOf C) → AreOwn rows → s ≡ spot_of v → AreOwn (placed (s, v) rows)
+own_placed rows s v own same r a = elim ((placed_members (s, v) rows r).0 a) [
+  | inl is ↦ subst (λ (p : Spot × VersionOf _). p.0 ≡ spot_of p.1) is same
+  | inr b ↦ own r b
+]

@@ -1,9 +1,11 @@
 //! What seeks may pass over.
 
-ghost use Rattle.std.specs.Prelude.{◌≡◌, ◌≢◌, ◌<◌, ◌≤◌, ℕ, List, Option, None, Some, IsTrue, true, false, find, length};
+ghost use Rattle.std.specs.Prelude.{◌≡◌, ◌≢◌, ◌<◌, ◌≤◌, ℕ, List, Option, None, Some, IsTrue, true, false, find, length, map};
 ghost use Rattle.std.specs.Ordering.{is_gt, nat_cmp};
 ghost use Rattle.std.specs.Cmp.Lexicographic.{slice_cmp};
-ghost use Rattle.b2_model.specs.Pages.{folder, is_from};
+ghost use Rattle.b2_model.specs.Pages.{folder, is_from, page_of, page_size, unfinished_page as machine_page};
+ghost use Rattle.b2_model.specs.State.{State};
+ghost use Rattle.listing_pages.specs.Unfinished.{AreStartsOf, asked_starts, shown_starts, start_row, starts_in};
 ghost use Rattle.name_rules.specs.Folder.{begins_with, folder_in};
 ghost use Rattle.b2_base.specs.declared.numbers.TheConstants.{LAST_VERSION};
 ghost use Rattle.b2_types.specs.declared.version.VersionOf.{VersionOf as TheVersion};
@@ -48,4 +50,12 @@ pub fn current_from_a_place<C>()
     ensures { (s : Place) (versions : List (TheVersion C)) (v : TheVersion C)
         → StartsBefore s versions → find (at_or_after s) versions ≡ Some v
         → is_start v.action ≡ false → current_in versions v.name ≡ Some v }
+{}
+
+/// The page of an index of starts is the machine's page of unfinished files.
+pub fn unfinished_of_the_machine<C>()
+    ensures { (M : State C) (bucket : ℕ) (prefix : List ℕ) (start : ℕ) (most : Option ℕ)
+        → (rows : List (Place × List ℕ)) → AreStartsOf M.versions bucket rows
+        → page_of (page_size 100 most) (map start_row (asked_starts prefix start (starts_in bucket rows)))
+        ≡ shown_starts (machine_page M bucket prefix start most) }
 {}

@@ -1,10 +1,11 @@
 //! Pages of listings.
 
-ghost use Rattle.std.specs.Prelude.{◌≡◌, ◌≤◌, ◌+◌, length, option_map};
+ghost use Rattle.std.specs.Prelude.{◌≡◌, ◌≤◌, ◌+◌, ◌++◌, OnOk, length, option_map};
+ghost use Rattle.std.specs.Option.{option_to_list};
 ghost use Rattle.b2_model.specs.Pages.{page_of};
 ghost use Rattle.listing_pages.specs.PageOf.{row_place};
 
-use b2_base::{Text, VersionNum};
+use b2_base::{Memory, Text, VersionNum};
 use std::marker::Model;
 
 /// A row of a page: a version with its name and number, or a folder.
@@ -12,6 +13,16 @@ use std::marker::Model;
 pub enum PageRow {
     File(Text, VersionNum),
     Folder(Text),
+}
+
+/// Adds the row, where there is one.
+pub(crate) fn push_some(rows: &mut Vec<PageRow>, row: Option<PageRow>) -> Result<(), Memory>
+    ensures { OnOk result (rows.new.items ≡ rows.old.items ++ option_to_list row) }
+{
+    if let Some(row) = row {
+        rows.push(row)?;
+    }
+    Ok(())
 }
 
 /// Rows of a listing, and the row after them.

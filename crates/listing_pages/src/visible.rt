@@ -1,7 +1,6 @@
 //! Pages of names, each with its current version where it can be seen.
 
-ghost use Rattle.std.specs.Prelude.{◌≡◌, ◌≤◌, ◌+◌, ◌++◌, IfOk, OnOk, map, take};
-ghost use Rattle.std.specs.Option.{option_to_list};
+ghost use Rattle.std.specs.Prelude.{◌≡◌, ◌≤◌, ◌+◌, IfOk, map, take};
 ghost use Rattle.b2_types.specs.declared.kinds.Action.TheVariants as action;
 ghost use Rattle.b2_model.specs.Pages.{listing_page, visible_versions};
 ghost use Rattle.index_rows.specs.OwnRows.{AreOwn, of_bucket};
@@ -10,7 +9,7 @@ ghost use Rattle.listing_pages.specs.PageOf.{IsDelimiter, asked_rows, listing_of
 
 use crate::ask::{Ask, page_size};
 use crate::folders::folder_turn;
-use crate::page::{Page, PageRow};
+use crate::page::{Page, PageRow, push_some};
 use crate::places::{first_place, past_name, past_version};
 use b2_base::{Memory, Text};
 use b2_types::{Action, Version};
@@ -75,15 +74,6 @@ fn name_turn(alloc: Global, ask: &Ask, version: &Version) -> Result<NameTurn, Me
             Ok(NameTurn { row: None, next })
         }
     }
-}
-
-fn push_some(rows: &mut Vec<PageRow>, row: Option<PageRow>) -> Result<(), Memory>
-    ensures { OnOk result (rows.new.items ≡ rows.old.items ++ option_to_list row) }
-{
-    if let Some(row) = row {
-        rows.push(row)?;
-    }
-    Ok(())
 }
 
 // The rows of a page and the one after them, as far as there are any.
