@@ -5,8 +5,8 @@
 # return among 100,000 holes: of the first hole, and past all of them.
 #
 # It needs `rt`, Python 3, a C compiler (`cc`) and OpenSSL's library with its headers. The files are made in the folder
-# that the first word names, else in a folder of its own. Run it by hand, on a machine that does nothing else and
-# has 3 GiB free.
+# that the first word names, else in a folder of its own; the second word is the number of runs, else 5. Run it by
+# hand, on a machine that does nothing else and has 3 GiB free.
 set -e
 . "$(dirname "$0")/program.sh"
 build bench_blobs none 65536 1 .
@@ -64,13 +64,12 @@ int main(int count, char **words)
 }
 C
 cc -O2 -o "$folder/stream" "$folder/stream.c" -lcrypto
-files=${1:-$folder}
-python3 - "$program" "$folder/stream" "$files" <<'PYTHON'
+python3 - "$program" "$folder/stream" "${1:-$folder}" "${2:-5}" <<'PYTHON'
 import os, sys, time
 
-program, beside, files = sys.argv[1:]
+program, beside, files, RUNS = *sys.argv[1:4], int(sys.argv[4])
 MIB = 1 << 20
-SIZE, RUNS = 1024 * MIB, 5
+SIZE = 1024 * MIB
 HOLES, TAKES = 100_000, 1_000
 STREAMS = {
     "sha1 alone": [program, "hash"],
