@@ -5,8 +5,8 @@
 # return among 100,000 holes: of the first hole, and past all of them.
 #
 # It needs `rt`, Python 3, a C compiler (`cc`) and OpenSSL's library with its headers. The files are made in the folder
-# that the first word names, else in a folder of its own. Run it by hand, on a machine that does nothing else and
-# has 3 GiB free.
+# that the first word names, else in a folder of its own; the second word is the number of runs, else 5. Run it by
+# hand, on a machine that does nothing else and has 3 GiB free.
 set -e
 . "$(dirname "$0")/program.sh"
 build bench_blobs none 65536 1 .
@@ -64,13 +64,12 @@ int main(int count, char **words)
 }
 C
 cc -O2 -o "$folder/stream" "$folder/stream.c" -lcrypto
-files=${1:-$folder}
-python3 - "$program" "$folder/stream" "$files" <<'PYTHON'
+python3 - "$program" "$folder/stream" "${1:-$folder}" "${2:-5}" <<'PYTHON'
 import os, sys, time
 
-program, beside, files = sys.argv[1:]
+program, beside, files, RUNS = *sys.argv[1:4], int(sys.argv[4])
 MIB = 1 << 20
-SIZE, RUNS = 1024 * MIB, 5
+SIZE = 1024 * MIB
 HOLES, TAKES = 100_000, 1_000
 STREAMS = {
     "sha1 alone": [program, "hash"],
@@ -84,7 +83,7 @@ STREAMS = {
 }
 
 def run(command, size, times):
-    """Seconds, peak resident bytes and what was printed."""
+    """Seconds, those of the processor, peak resident bytes and what was printed."""
     start = time.perf_counter()
     reads, writes = os.pipe()
     pid = os.fork()
@@ -97,42 +96,44 @@ def run(command, size, times):
     _, status, usage = os.wait4(pid, 0)
     seconds = time.perf_counter() - start
     assert status == 0, (command, status)
-    return seconds, usage.ru_maxrss * 1024, int(told)
+    return seconds, usage.ru_utime + usage.ru_stime, usage.ru_maxrss * 1024, int(told)
 
 def streams():
-    """The least seconds of each without the start of its process, and the most bytes, all of them in turn."""
-    least, most = {}, {}
+    """The least seconds of each and the least of the processor, without the start of its process, and the most
+    bytes, all of them in turn."""
+    least, busy, most = {}, {}, {}
     for _ in range(RUNS):
         for name, command in STREAMS.items():
             for times in (0, 1):
-                seconds, peak, told = run(command, SIZE, times)
+                seconds, used, peak, told = run(command, SIZE, times)
                 least[name, times] = min(seconds, least.get((name, times), seconds))
-                most[name, times] = max(peak, most.get((name, times), peak))
+                busy[name, times] = min(used, busy.get((name, times), used))
+                most[name] = max(peak, most.get(name, peak))
                 assert times == 0 or name.startswith("writes") or told == DIGEST, name
-    return {name: least[name, 1] - least[name, 0] for name in STREAMS}, most
+    return [{name: each[name, 1] - each[name, 0] for name in STREAMS} for each in (least, busy)] + [most]
 
 def takes(what):
-    """The least seconds of a take and a return."""
+    """The least seconds of the processor for a take and a return."""
     least = {}
     for _ in range(RUNS):
         for times in (0, TAKES):
-            seconds, _, _ = run([program, what], HOLES, times)
-            least[times] = min(seconds, least.get(times, seconds))
+            _, used, _, _ = run([program, what], HOLES, times)
+            least[times] = min(used, least.get(times, used))
     return (least[TAKES] - least[0]) / TAKES
 
-_, _, DIGEST = run(STREAMS["OpenSSL alone"], SIZE, 1)
-seconds, peaks = streams()
-print("1 GiB                 MB/s   of sha1 alone   of OpenSSL alone   peak MiB")
+DIGEST = run(STREAMS["OpenSSL alone"], SIZE, 1)[3]
+seconds, busy, peaks = streams()
+print("1 GiB                MB/s   MB/s of the processor   of sha1 alone   of OpenSSL alone   peak MiB")
 for name in STREAMS:
-    print("%-18s   %6.0f   %13.2f   %16.2f   %8.1f" % (
-        name, SIZE / 1e6 / seconds[name], seconds["sha1 alone"] / seconds[name],
-        seconds["OpenSSL alone"] / seconds[name], peaks[name, 1] / MIB))
+    print("%-18s   %5.0f   %21.0f   %13.2f   %16.2f   %8.1f" % (
+        name, SIZE / 1e6 / seconds[name], SIZE / 1e6 / busy[name], busy["sha1 alone"] / busy[name],
+        busy["OpenSSL alone"] / busy[name], peaks[name] / MIB))
 for ours, theirs in (("into memory", "C into memory"), ("into files", "C into a file")):
-    print("%s: %.2f times the speed of the C program" % (ours, seconds[theirs] / seconds[ours]))
+    print("%s: %.2f times the speed of the C program" % (ours, busy[theirs] / busy[ours]))
 for what, told in (("first_hole", "the first"), ("past_holes", "past all of them")):
     print("%d holes, a take and a return of %s: %.2f microseconds" % (HOLES, told, takes(what) * 1e6))
-above = (peaks["into memory", 1] - SIZE) / MIB
-print("into memory: %.1f MiB above the area; into files: %.1f MiB" % (above, peaks["into files", 1] / MIB))
-assert above < 16 and peaks["into files", 1] < 16 * MIB, "too much memory"
-assert seconds["sha1 alone"] >= 0.9 * seconds["into memory"], "less than 0.9 of sha1 alone"
+above = (peaks["into memory"] - SIZE) / MIB
+print("into memory: %.1f MiB above the area; into files: %.1f MiB" % (above, peaks["into files"] / MIB))
+assert above < 16 and peaks["into files"] < 16 * MIB, "too much memory"
+assert busy["sha1 alone"] >= 0.9 * busy["into memory"], "less than 0.9 of sha1 alone"
 PYTHON
