@@ -1,11 +1,9 @@
 -- A field of a narrower kind, from the field of the wider one.
 use Rattle.std.proofs.Common.{◌≡◌, ℕ, List, Option, Some, None, Ok, Err, ap}
-use Rattle.std.specs.Prelude.{Result, option_and_then}
-use Rattle.b2_base.specs.declared.failure.Or.{Or}
-use Rattle.b2_base.specs.declared.failure.Or.TheVariants as or
+use Rattle.std.specs.Prelude.{option_and_then}
 use Rattle.serde_json.specs.Data.{Data, null, boolean, number, string, array, object}
 use Rattle.b2_types.specs.declared.fault.Fault.{Fault}
-use Rattle.json_shape.specs.Fields.{field, Gives}
+use Rattle.json_shape.specs.Fields.{field}
 use Rattle.field_kinds.specs.Reader.{needed, optional, missing, wrong, if_null, or_wrong, given}
 
 wrong_still : {X Y : Type 0} (key : List ℕ) (narrow : X → Option Y) (o : Option X) (f : Fault) → or_wrong key o ≡ Err f → or_wrong key (option_and_then narrow o) ≡ Err f
@@ -60,9 +58,3 @@ some_by key narrow (object ms) o x is = given_on key narrow o x is
 pub optional_some : {X Y : Type 0} (key : List ℕ) (kind : Data → Option X) (narrow : X → Option Y) (d : Data) (x : X)
     → optional key kind d ≡ Ok (Some x) → optional key (λ d. option_and_then narrow (kind d)) d ≡ given (or_wrong key (narrow x))
 optional_some key kind narrow d x is = some_by key narrow (field key d) (kind (field key d)) x is
-
--- the exit of a `?` that hands on what was amiss
-pub gives_err : {T U X Y F : Type 0} (view : T → X) (other : U → Y) (e : Or F) (read : Result X F) (wide : Result Y F)
-    → ((f : F) → wide ≡ Err f → read ≡ Err f) → Gives other (Err e) wide → (r : Result T (Or F)) → r ≡ Err e → Gives view r read
-gives_err view other or.Memory read wide same fault r is = rw is tt
-gives_err view other (or.Fault f) read wide same fault r is = rw is (same f fault)

@@ -4,7 +4,8 @@ use Rattle.serde_json.specs.View.{view}
 use Rattle.field_kinds.specs.Kinds.{text, list_of}
 use Rattle.field_kinds.specs.Reader.{needed, or_wrong}
 use Rattle.key_fields.specs.Capabilities.{caps_of, capabilities}
-use Rattle.key_fields.proofs.Narrow.{needed_err, needed_ok, gives_err}
+use Rattle.field_kinds.proofs.Handed.{gives_err}
+use Rattle.key_fields.proofs.Narrow.{needed_err, needed_ok}
 use Rattle.key_fields.proofs.capabilities.needed_caps.Goals as goal
 
 pub returns-in_err-names : goal.returns-in_err-names

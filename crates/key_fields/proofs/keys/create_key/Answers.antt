@@ -5,7 +5,7 @@ use Rattle.field_kinds.specs.declared.texts.TextRule.TheVariants as rule
 use Rattle.field_kinds.specs.Kinds.{text_by}
 use Rattle.field_kinds.specs.Reader.{needed}
 use Rattle.key_fields.specs.Keys.{create_key}
-use Rattle.key_fields.proofs.Narrow.{gives_err}
+use Rattle.field_kinds.proofs.Handed.{gives_err}
 use Rattle.key_fields.proofs.keys.create_key.Goals as goal
 
 pub returns-in_err-name : goal.returns-in_err-name
