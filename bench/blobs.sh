@@ -1,6 +1,6 @@
 #!/bin/sh
-# Streams contents of 1 GiB, in pieces of 65,536 bytes, into extents: over a disk in memory and over files in a
-# folder. Beside them the kit's `sha1` alone on the same pieces, writes without a digest, OpenSSL's SHA-1 alone,
+# Streams contents of 1 GiB, in pieces of 65,536 bytes, into extents: over a disk in memory, whose area has its
+# memory before the time is taken, and over files in a folder. Beside them the kit's `sha1` alone on the same pieces, writes without a digest, OpenSSL's SHA-1 alone,
 # and a C program that writes and hashes the same with OpenSSL. They run in turn. Then the microseconds of a take and a
 # return among 100,000 holes: of the first hole, and past all of them.
 #
@@ -20,13 +20,13 @@ cat > "$folder/stream.c" <<'C'
 
 enum { PIECE = 65536 };
 
-/* stream hash|memory|file BYTES TIMES FOLDER: the SHA-1 alone, or with what is hashed written into memory that
-   grows as it comes, or into a file that is synced at its end. */
+/* stream hash|memory|file BYTES TIMES FOLDER: the SHA-1 alone, or with what is hashed written into memory that is
+   there before, or into a file that is synced at its end. */
 int main(int count, char **words)
 {
     static unsigned char piece[PIECE], digest[EVP_MAX_MD_SIZE];
     unsigned char *area = NULL;
-    size_t pieces, room = 0, length = 0;
+    size_t pieces, length = 0;
     long times, sum = 0;
     int file = -1;
     char path[4096];
@@ -40,18 +40,17 @@ int main(int count, char **words)
         file = open(path, O_RDWR | O_CREAT | O_TRUNC, 0644);
         if (file < 0) return 2;
     }
+    if (!strcmp(words[1], "memory")) {
+        area = malloc(pieces * PIECE);
+        if (!area) return 2;
+        memset(area, 1, pieces * PIECE);
+    }
     for (long t = 0; t < times; t++) {
+        if (area) length = 0;
         if (!EVP_DigestInit_ex(hash, EVP_sha1(), NULL)) return 2;
         for (size_t i = 0; i < pieces; i++) {
             if (file >= 0 && pwrite(file, piece, PIECE, length) != PIECE) return 2;
-            if (!strcmp(words[1], "memory")) {
-                if (length + PIECE > room) {
-                    room = room ? 2 * room : PIECE;
-                    area = realloc(area, room);
-                    if (!area) return 2;
-                }
-                memcpy(area + length, piece, PIECE);
-            }
+            if (area) memcpy(area + length, piece, PIECE);
             length += PIECE;
             if (!EVP_DigestUpdate(hash, piece, PIECE)) return 2;
         }

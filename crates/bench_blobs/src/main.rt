@@ -2,6 +2,8 @@
 //! sum of what it got each time: a byte of a digest, or the number of a block.
 #![tactic(auto)]
 
+ghost use Rattle.std.specs.Prelude.{◌≡◌, IfSome, length};
+
 mod file_disk;
 mod room;
 mod stream;
@@ -40,11 +42,22 @@ fn words<R: Env + AllocGlobal>(rt: &R) -> Option<Order> {
     })
 }
 
-fn flat(alloc: Global) -> Option<FlatDisk> {
+// So many bytes, whose memory is there.
+fn bytes(alloc: Global, count: u64) -> Option<Vec<u8>>
+    ensures { IfSome result (λ bytes. length bytes.items ≡ count) }
+{
+    vec![in alloc; 1; count as usize].ok()
+}
+
+// A disk in memory whose area of contents has so many bytes already.
+fn flat(alloc: Global, count: u64) -> Option<FlatDisk> {
+    if count > 1 << 40 {
+        return None;
+    }
     let image = DiskImage {
-        log0: Blob::copy(alloc, &[]).ok()?,
-        log1: Blob::copy(alloc, &[]).ok()?,
-        blobs: Blob::copy(alloc, &[]).ok()?,
+        log0: Blob::of(Vec::new(alloc)),
+        log1: Blob::of(Vec::new(alloc)),
+        blobs: Blob::of(bytes(alloc, count)?),
     };
     Some(FlatDisk::new(alloc, image))
 }
@@ -55,8 +68,8 @@ fn done(rt: &HostRuntime, order: &Order) -> Option<u64> {
     match order.what.as_str() {
         "none" => Some(0),
         "hash" => hash(alloc, pieces, order.times),
-        "write_flat" => write(alloc, &mut flat(alloc)?, pieces, order.times),
-        "store_flat" => store(alloc, &mut flat(alloc)?, pieces, order.times),
+        "write_flat" => write(alloc, &mut flat(alloc, order.size)?, pieces, order.times),
+        "store_flat" => store(alloc, &mut flat(alloc, order.size)?, pieces, order.times),
         "write_file" => {
             let mut disk = FileDisk::make(rt, order.folder.as_str())?;
             write(alloc, &mut disk, pieces, order.times)
