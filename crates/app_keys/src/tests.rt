@@ -1,6 +1,8 @@
 //! Ids, secrets, and the making, deletion and pages of keys.
 
-use crate::{KeyId, KeyRefusal, check_secret, keys_create, keys_delete, keys_page, secret_text};
+use crate::{
+    KeyId, KeyRefusal, NewKey, check_secret, keys_create, keys_delete, keys_page, secret_text,
+};
 use b2_base::{BucketNum, KeyNum, List, Moment, Or, Text};
 use b2_types::{ApiVersion, CreateKey, Key};
 use outside_traits::ListWords;
@@ -71,48 +73,75 @@ fn ids_and_secrets(rt: HostRuntime) -> Result<(), Fail> {
     Ok(())
 }
 
+// What comes of the call by a key that lists files and makes keys. No key or call outlives it.
+fn create(
+    alloc: Global,
+    caps: CapSet,
+    bucket: Option<u32>,
+    next: u32,
+    luck: &mut ListWords,
+) -> Result<Result<NewKey, Or<KeyRefusal>>, Fail> {
+    let next = number(next)?;
+    let t = moment(1000)?;
+    let call = call(alloc, caps, bucket)?;
+    let maker = key(
+        alloc,
+        1,
+        CapSet::none().with(Cap::ListFiles).with(Cap::WriteKeys),
+    )?;
+    Ok(keys_create(alloc, Some(&maker), next, t, &call, luck))
+}
+
+fn refused(
+    alloc: Global,
+    caps: CapSet,
+    bucket: Option<u32>,
+    next: u32,
+) -> Result<Option<KeyRefusal>, Fail> {
+    let mut luck = ListWords::new(Vec::new(alloc));
+    match create(alloc, caps, bucket, next, &mut luck)? {
+        Err(Or::Fault(refusal)) => Ok(Some(refusal)),
+        _ => Ok(None),
+    }
+}
+
+// The key's end, and whether its secret is that of the words 3 to 6, is taken as its secret, and another
+// is not.
+fn facts(made: &NewKey) -> (Option<Moment>, bool, bool, bool) {
+    let is_theirs = made.secret.get() == SECRET;
+    let is_taken = check_secret(&made.key, SECRET.as_bytes());
+    let is_other_refused = !check_secret(&made.key, b"K001");
+    (made.key.end, is_theirs, is_taken, is_other_refused)
+}
+
+fn made(alloc: Global, caps: CapSet) -> Result<(Option<Moment>, bool, bool, bool), Fail> {
+    let mut luck = ListWords::new(vec![in alloc; 3, 4, 5, 6]?);
+    match create(alloc, caps, Some(1), 2, &mut luck)? {
+        Ok(made) => Ok(facts(&made)),
+        Err(_) => Err(Fail::from("no key")),
+    }
+}
+
+fn deleted(alloc: Global, num: u32) -> Result<Result<KeyNum, KeyRefusal>, Fail> {
+    let key = key(alloc, num, CapSet::all())?;
+    Ok(keys_delete(&key))
+}
+
 #[test]
 fn key_with_a_prefix(rt: HostRuntime) -> Result<(), Fail> {
     let alloc = rt.alloc();
     let caps = CapSet::none().with(Cap::ListFiles);
-    let maker = key(alloc, 1, caps.with(Cap::WriteKeys))?;
     for (caps, bucket, next, refusal) in [
         (caps.with(Cap::ReadFiles), None, 2, KeyRefusal::KeyCaps),
         (caps.with(Cap::WriteKeys), Some(1), 2, KeyRefusal::KeyLimit),
         (caps, Some(1), u32::MAX, KeyRefusal::Cap),
     ] {
-        let mut luck = ListWords::new(Vec::new(alloc));
-        let call = call(alloc, caps, bucket)?;
-        let made = keys_create(
-            alloc,
-            Some(&maker),
-            number(next)?,
-            moment(1000)?,
-            &call,
-            &mut luck,
-        );
-        let Err(Or::Fault(found)) = made else {
-            return Err(Fail::from("made"));
-        };
-        assert_eq!(rt; found, refusal);
+        assert_eq!(rt; refused(alloc, caps, bucket, next)?, Some(refusal));
     }
-    let mut luck = ListWords::new(vec![in alloc; 3, 4, 5, 6]?);
-    let call = call(alloc, caps, Some(1))?;
-    let made = keys_create(
-        alloc,
-        Some(&maker),
-        number(2)?,
-        moment(1000)?,
-        &call,
-        &mut luck,
-    )?;
-    assert_eq!(rt; made.secret.get(), SECRET);
-    assert_eq!(rt; made.key.end, Some(moment(61_000)?));
-    assert!(rt; check_secret(&made.key, SECRET.as_bytes()));
-    assert!(rt; !check_secret(&made.key, b"K001"));
-    assert_eq!(rt; keys_delete(&made.key), Ok(number(2)?));
-    let master = key(alloc, 0, CapSet::all())?;
-    assert_eq!(rt; keys_delete(&master), Err(KeyRefusal::Master));
+    let end = Some(moment(61_000)?);
+    assert_eq!(rt; made(alloc, caps)?, (end, true, true, true));
+    assert_eq!(rt; deleted(alloc, 2)?, Ok(number(2)?));
+    assert_eq!(rt; deleted(alloc, 0)?, Err(KeyRefusal::Master));
     Ok(())
 }
 

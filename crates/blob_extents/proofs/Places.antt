@@ -1,9 +1,11 @@
 -- Where extents stand that are in use.
-use Rattle.std.proofs.Common.{◌≡◌, ◌⊎◌, inl, inr, ℕ, ◌+◌, ◌-◌, ◌≤◌, ◌<◌, Option, Some, None, Bool, true, false, nat_eq, if◌then◌else◌, refl, sym, ap, ◌∙◌, arith}
+use Rattle.std.proofs.Common.{◌≡◌, ◌⊎◌, inl, inr, ℕ, ◌+◌, ◌-◌, ◌≤◌, ◌<◌, Option, Some, None, Bool, true, false, nat_eq, if◌then◌else◌, List, [], ◌∷◌, ◌++◌, Contains, refl, sym, ap, subst, ◌∙◌, arith}
+use Rattle.std.proofs.lemmas.List.Elements.{Contains-push}
 use Rattle.std.proofs.lemmas.Bool.{cases_lt}
 use Rattle.std.specs.Option.{option_map}
 use Rattle.b2_base.specs.declared.extent.Extent.{Extent}
 use Rattle.extent_space.specs.Room.{Room, Apart, IsTaken, IsTidy, extent_for, first_fit, rounded}
+use Rattle.blob_extents.specs.Uses.{Uses, IsInUse}
 use Rattle.blob_extents.proofs.Frames.{rounds_up}
 
 abbrev extent : ℕ → ℕ → Extent
@@ -52,3 +54,11 @@ apart_of x e some none = by_case (cases_lt 0 e.len)
     by_case : (0 < e.len) ⊎ (e.len ≤ 0) → Apart x e
     by_case (inl larger) = some larger
     by_case (inr least) = let empty : e.len ≡ 0 = omega arith in inr (omega (arith, empty, none empty))
+
+-- the same room
+pub in_use_still : (old new : Uses) (e : Extent) → new.room ≡ old.room → IsInUse old e → IsInUse new e
+in_use_still old new e same used = record { taken = subst (λ r. IsTaken r e) (sym same) used.taken; none = used.none }
+
+-- what is pinned once more is among the pins
+pub now_pinned : (old new : List Extent) (e : Extent) → new ≡ old ++ e ∷ [] → Contains new e
+now_pinned old new e is = subst (λ l. Contains l e) (sym is) (Contains-push old e)

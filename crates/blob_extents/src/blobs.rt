@@ -87,6 +87,7 @@ impl Blobs {
     pub fn begin(&mut self, len: u64) -> Result<Staging, Or<AreaEnd>>
         ensures place { IfOk result (λ s. extent_for self.old.room len ≡ Some (staging_extent s)) }
         ensures full { IfFault result (λ _. extent_for self.old.room len ≡ None) }
+        ensures len { IfOk result (λ s. (staging_extent s).len ≡ len) }
         ensures takes { IfOk result (λ s. Takes self.old.room (staging_extent s) self.new.room) }
         ensures in_use { IfOk result (λ s. IsInUse self.new (staging_extent s)) }
         ensures apart { IfOk result (λ s. (e : Place) → IsInUse self.old e

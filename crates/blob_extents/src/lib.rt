@@ -3,7 +3,12 @@
 #![tactic(auto)]
 
 mod blobs;
+mod laws;
 mod states;
 
 pub use blobs::Blobs;
+pub use laws::{read_after_release, what_is_read};
 pub use states::{Kept, Pin, Sealed, Spent, Staging};
+
+#[cfg(test)]
+mod tests;

@@ -1,7 +1,7 @@
 //! The states of a content: bytes that come, bytes that are safe, bytes that are kept, and a look
 //! at them.
 
-ghost use Rattle.std.specs.Prelude.{◌≡◌, ◌+◌, ◌^◌, ◌<◌, ◌≤◌, ◌++◌, ℕ, List, [], length, take, drop, MatchResult, IfOk, IfErr, OnOk, OnErr};
+ghost use Rattle.std.specs.Prelude.{◌≡◌, ◌+◌, ◌-◌, ◌^◌, ◌<◌, ◌≤◌, ◌++◌, ℕ, List, [], length, take, drop, MatchResult, IfOk, IfErr, OnOk, OnErr};
 ghost use Rattle.b2_base.specs.declared.extent.Extent.{Extent as Place};
 ghost use Rattle.outside_traits.specs.Causes.{Rose};
 ghost use Rattle.sha1.specs.Sha1.{sha1};
@@ -65,6 +65,13 @@ impl Staging {
             filled: 0,
             hasher: Sha1::new(),
         }
+    }
+
+    /// How many bytes are still missing.
+    pub fn missing(&self) -> u64
+        ensures { result ≡ (staging_extent self.now).len - staging_filled self.now }
+    {
+        self.extent.len - self.filled
     }
 
     /// Writes a piece after those that came, and keeps the digest. Nothing is buffered.

@@ -10,3 +10,4 @@ pub mod Flat
 pub mod Past
 pub mod FlatDisk
 pub mod MemDisk
+pub mod Untold

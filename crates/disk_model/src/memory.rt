@@ -1,6 +1,6 @@
 //! A disk in memory that keeps what was done to it.
 
-ghost use Rattle.std.specs.Prelude.{ℕ, ◌≡◌, ◌⊎◌, ◌+◌, ◌-◌, ◌^◌, ◌≤◌, ◌<◌, ◌↔◌, List, [], ◌∷◌, ◌++◌, length, is_ok, if◌then◌else◌, IsOk, IsErr, IfOk, OnOk, OnErr};
+ghost use Rattle.std.specs.Prelude.{ℕ, All, ◌≡◌, ◌⊎◌, ◌+◌, ◌-◌, ◌^◌, ◌≤◌, ◌<◌, ◌↔◌, List, [], ◌∷◌, ◌++◌, length, is_ok, if◌then◌else◌, IsOk, IsErr, IfOk, OnOk, OnErr};
 ghost use Rattle.std.specs.List.{AllByRecursion};
 ghost use Rattle.outside_traits.specs.Causes.{raised, Rose, HasCause};
 ghost use Rattle.disk_model.specs.Image.{bytes_of};
@@ -9,7 +9,7 @@ ghost use Rattle.disk_model.specs.State.{Rests, Changes, NowReads, ReadsAfter, H
 ghost use Rattle.disk_model.specs.Areas.{image_in};
 ghost use Rattle.disk_model.specs.Changes.{image_after, images_of, done_by, three_images, one_more};
 ghost use Rattle.disk_model.specs.Counts.{CountsCall};
-ghost use Rattle.disk_model.specs.Past.{past_state};
+ghost use Rattle.disk_model.specs.Past.{MightHaveBeen, past_state};
 
 use crate::area::{Area, DiskImage};
 use crate::areas::{Areas, copy_out, out_of_range};
@@ -58,7 +58,8 @@ impl MemDisk {
 
     /// For each call whose number is greater than `since`, in order, three images of the disk just
     /// after it: each change since the last sync is kept whole, each is dropped, and each range that
-    /// was written is filled with the byte 1, where a cut is kept.
+    /// was written is filled with the byte 1, where a cut is kept. Each is one that a crash since that
+    /// call might have left.
     pub fn images(&self, alloc: Global, since: u64) -> Result<Vec<DiskImage>, Memory>
         ensures all { IfOk result
             (λ images. images.items ≡ images_of (mem_done self.now) since
@@ -66,6 +67,9 @@ impl MemDisk {
         ensures left { (call : ℕ) → AllByRecursion
             (past_state (done_by call (mem_done self.now))).may_leave
             (three_images (done_by call (mem_done self.now))) }
+        ensures since { IfOk result (λ images. All
+            (MightHaveBeen (mem_done self.now) (length (done_by since (mem_done self.now))))
+            images.items) }
     {
         let mut images = Vec::new(alloc);
         for call in since..self.calls.made {

@@ -1,1 +1,9 @@
+pub mod Kept
+pub mod Sorted
+pub mod Buckets
+pub mod Rows
+pub mod Judged
+pub mod Listings
+pub mod Files
+pub mod Alike
 pub mod Refused

@@ -6,3 +6,5 @@ pub mod PassKeeps
 pub mod Answered
 pub mod Days
 pub mod Refused
+pub mod Details
+pub mod Existence

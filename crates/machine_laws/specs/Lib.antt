@@ -1,3 +1,4 @@
 pub mod Ranges
 pub mod Rules
+pub mod Details
 pub mod Days

@@ -2,10 +2,12 @@
 -- other (the B2 reference, "Application keys" and "API calls").
 use Rattle.std.specs.Prelude.{⊤, ℕ, List, [], ◌∷◌, ◌++◌, Some, map}
 use Rattle.rule_table.specs.declared.fault.FaultKind.{FaultKind}
-use Rattle.rule_table.specs.declared.fault.FaultKind.TheVariants.{P1, P2, P3, P4, P5, P6, P7, P8, P9, P10}
+use Rattle.rule_table.specs.declared.fault.FaultKind.TheVariants.{P1, P2, P3, P4, P5, P6, P7, P8, P9, P10, NoBucket, NoFile, NoKey}
 use Rattle.b2_types.specs.declared.key.Flight.{Flight}
 use Rattle.b2_types.specs.declared.call.Call.{Call}
 use Rattle.b2_types.specs.declared.call.Call.TheVariants as call
+use Rattle.b2_types.specs.declared.upload.UploadCall.{UploadCall}
+use Rattle.b2_types.specs.declared.upload.UploadCall.TheVariants as upload
 use Rattle.b2_model.specs.Body.{Body}
 use Rattle.b2_model.specs.Checks.{Check}
 use Rattle.b2_model.specs.State.{State}
@@ -24,11 +26,23 @@ token_kinds = P1 ∷ P2 ∷ P3 ∷ P4 ∷ P5 ∷ P6 ∷ []
 abbrev pub policy_kinds : List FaultKind → List FaultKind
 policy_kinds exists = token_kinds ++ P7 ∷ P8 ∷ P9 ∷ exists ++ P10 ∷ []
 
+-- something that is named is not there
+abbrev pub IsOfExistence : FaultKind → Type 0
+IsOfExistence NoBucket = ⊤
+IsOfExistence NoFile = ⊤
+IsOfExistence NoKey = ⊤
+IsOfExistence other = ⊥
+
 -- a call that the policy judges: it is in form, and gives a token
 abbrev pub IsJudged : Call → Type 0
 IsJudged (call.AuthorizeAccount c) = ⊥
 IsJudged (call.Bad c) = ⊥
 IsJudged other = ⊤
+
+-- an upload that the policy judges: it is in form
+abbrev pub IsJudgedUpload : UploadCall → Type 0
+IsJudgedUpload (upload.Bad u) = ⊥
+IsJudgedUpload other = ⊤
 
 -- all refusals of an end, in their order. The flight is gone
 abbrev pub end_refusals : {C : Type 0} → (C → ℕ) → State C → ℕ → Flight → Body C → List Check

@@ -3,3 +3,4 @@ pub mod Bytes
 pub mod Memory
 pub mod Given
 pub mod Lists
+pub mod Links

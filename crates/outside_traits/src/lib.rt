@@ -4,12 +4,14 @@
 
 mod calls;
 mod clock;
+mod link;
 mod sink;
 mod source;
 mod words;
 
 pub use calls::Calls;
 pub use clock::{Clock, ListClock};
+pub use link::{Event, Link, MemLink, Sent, SentPiece};
 pub use sink::{MemSink, Sink, write_all};
 pub use source::{MemSource, Source};
 pub use words::{ListWords, Words};

@@ -6,7 +6,7 @@ use Rattle.b2_types.specs.declared.key.Key.{Key}
 use Rattle.b2_types.specs.declared.record.RecordOf.{RecordOf}
 use Rattle.b2_types.specs.declared.record.ChangeOf.TheVariants as change
 use Rattle.b2_model.specs.State.{State}
-use Rattle.b2_model.specs.Changes.{master_key}
+use Rattle.b2_model.specs.Changes.{master_key, state_of_settings}
 use Rattle.b2_model.specs.Stored.{Replayed, replay_on, replay, record_at, numbers_of, version_records, snapshot, stored_part}
 use Rattle.sound_states.specs.Sound.{IsSound}
 use Rattle.sound_states.proofs.Ascending.{all_from, pairs_head}
@@ -46,8 +46,17 @@ module _ {C : Type 0} where
   flat : (bs vs ks last : List (RecordOf C)) → ((bs ++ vs) ++ ks) ++ last ≡ bs ++ (vs ++ (ks ++ last))
   flat bs vs ks last = append_assoc (bs ++ vs) ks last ∙ append_assoc bs vs (ks ++ last)
 
-  pub replays : (M : State C) → IsSound M → replay (snapshot (stored_part M)) ≡ Some (stored_part M)
-  replays M sound =
+  -- what follows the settings, and the whole snapshot
+  abbrev pub entries_after : State C → List (RecordOf C)
+  entries_after S =
+      map (λ b. record_at S.now (change.BucketMake b)) S.buckets
+      ++ flat_map version_records S.versions
+      ++ map (λ k. record_at S.now (change.KeyMake k)) (filter (λ k. not (k.num == 0)) S.keys)
+      ++ record_at S.now (change.SnapState (numbers_of S)) ∷ []
+
+  -- the numbers have come by its end
+  pub settles : (M : State C) → IsSound M → replay_on (before_numbers (state_of_settings M.settings M.kept)) (entries_after (stored_part M)) ≡ Some (record { state = stored_part M; settled = true })
+  settles M sound =
       let t = M.kept in
       let G : Option (Replayed C) = Some (record { state = stored_part M; settled = true }) in
       let making : List (RecordOf C) = map (λ b. record_at t (change.BucketMake b)) M.buckets in
@@ -56,10 +65,12 @@ module _ {C : Type 0} where
       let numbers : List (RecordOf C) = record_at t (change.SnapState (numbers_of (stored_part M))) ∷ [] in
       let others = other_keys (master_key M.settings) M.keys sound.keys.others refl sound.keys.all sound.keys.order in
       let begins = before_numbers (partial {C = C} M.settings t 1 1 1 [] [] (master_key M.settings ∷ [])) in
-      ap (λ rs. option_map (λ R. R.state) (replay_on begins rs)) (flat making versions (keys (filter (λ k. not (k.num == 0)) M.keys)) numbers)
-      ∙ ap (λ ks. option_map (λ R. R.state) (replay_on begins (making ++ (versions ++ (keys ks ++ numbers))))) others.1
-      ∙ ap (option_map (λ R. R.state))
-      (buckets_on M.settings t M.next_bucket M.buckets sound.buckets (master_key M.settings ∷ []) (versions ++ (keys sound.keys.others ++ numbers)) G [] M.buckets 1 refl sound.buckets.first (λ buckets_next few_buckets.
+      ap (replay_on begins) (flat making versions (keys (filter (λ k. not (k.num == 0)) M.keys)) numbers)
+      ∙ ap (λ ks. replay_on begins (making ++ (versions ++ (keys ks ++ numbers)))) others.1
+      ∙ buckets_on M.settings t M.next_bucket M.buckets sound.buckets (master_key M.settings ∷ []) (versions ++ (keys sound.keys.others ++ numbers)) G [] M.buckets 1 refl sound.buckets.first (λ buckets_next few_buckets.
       versions_on M.settings buckets_next 1 M.next_version M.buckets (master_key M.settings ∷ []) M.versions sound.versions (keys sound.keys.others ++ numbers) G [] M.versions t 1 refl sound.versions.first (λ at versions_next few_versions.
       keys_on M.settings t buckets_next M.next_key versions_next M.buckets M.versions M.keys sound.keys numbers G at (master_key M.settings ∷ []) sound.keys.others 1 (sym sound.keys.all) others.0 sound.keys.first (λ at keys_next few_keys.
-      numbers_on M at buckets_next keys_next versions_next few_buckets few_keys few_versions))))
+      numbers_on M at buckets_next keys_next versions_next few_buckets few_keys few_versions)))
+
+  pub replays : (M : State C) → IsSound M → replay (snapshot (stored_part M)) ≡ Some (stored_part M)
+  replays M sound = ap (option_map (λ R. R.state)) (settles M sound)

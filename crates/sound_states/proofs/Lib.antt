@@ -5,5 +5,7 @@ pub mod Buckets
 pub mod Keys
 pub mod Versions
 pub mod Passed
+pub mod Tokens
 pub mod Records
+pub mod Replays
 pub mod Found

@@ -7,6 +7,7 @@ use Rattle.b2_model.specs.Policy.{is_same_name}
 use Rattle.b2_model.specs.Changes.{master_key, state_of_settings, new_store}
 use Rattle.sound_states.specs.Sound.{AreKeys, IsSound}
 use Rattle.sound_states.proofs.Ascending.{pairs_nil, ascends_nil}
+use Rattle.sound_states.proofs.Tokens.{no_tokens, no_flights}
 
 first_keys : (settings : Settings) → AreKeys settings 1 (master_key settings ∷ [])
 first_keys settings = record {
@@ -24,7 +25,8 @@ settings_sound settings t = record {
   buckets = record { order = ascends_nil (λ a. a.num); given = All-nil _; names = pairs_nil (λ a b. is_same_name a.name b.name ≡ false); rules = All-nil _; first = omega arith; last = omega arith };
   versions = record { order = ascends_nil (λ a. a.num); given = All-nil _; placed = All-nil _; hold = All-nil _; first = omega arith };
   keys = first_keys settings;
-  flights = ascends_nil (λ f. f.conn);
+  tokens = no_tokens _ 0 (omega arith);
+  flights = no_flights [];
   moments = omega arith;
 }
 
@@ -33,6 +35,7 @@ new_store_sound settings t = record {
   buckets = record { order = ascends_nil (λ a. a.num); given = All-nil _; names = pairs_nil (λ a b. is_same_name a.name b.name ≡ false); rules = All-nil _; first = omega arith; last = omega arith };
   versions = record { order = ascends_nil (λ a. a.num); given = All-nil _; placed = All-nil _; hold = All-nil _; first = omega arith };
   keys = first_keys settings;
-  flights = ascends_nil (λ f. f.conn);
+  tokens = no_tokens _ 0 (omega arith);
+  flights = no_flights [];
   moments = omega arith;
 }

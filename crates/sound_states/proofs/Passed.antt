@@ -1,5 +1,5 @@
 -- The lifecycle pass keeps a state sound.
-use Rattle.std.proofs.Common.{◌≡◌, ℕ, ◌<◌, ◌==◌, nat_le, Bool, true, false, not, ◌&&◌, ◌||◌, List, [], ◌∷◌, ◌++◌, All, Option, Some, None, if◌then◌else◌, refl, arith}
+use Rattle.std.proofs.Common.{◌≡◌, ℕ, ◌<◌, ◌≤◌, ◌==◌, nat_le, Bool, true, false, not, ◌&&◌, ◌||◌, List, [], ◌∷◌, ◌++◌, All, Option, Some, None, if◌then◌else◌, refl, arith}
 use Rattle.std.specs.List.{list_any}
 use Rattle.std.proofs.lemmas.List.Elements.{All-nil, All-cons, All-head, All-tail}
 use Rattle.std.proofs.lemmas.Bool.Decides.{nat_tests}
@@ -70,6 +70,33 @@ module _ {C : Type 0} where
   each_sound bs t (b ∷ rest) M among sound =
       each_sound bs t rest (pass_names t b (names_in (rows M b.num)) M) (All-tail (λ b. IsAmong bs b.num) b rest among)
       (on_names_sound bs t b (names_in (rows M b.num)) M (All-head (λ b. IsAmong bs b.num) b rest among) sound)
+
+  -- ---- the next number does not fall
+
+  if_rises : (b : Bool) (M N : State C) → M.next_version ≤ N.next_version → M.next_version ≤ (if b then N else M).next_version
+  if_rises true M N rises = rises
+  if_rises false M N rises = omega arith
+
+  on_name_rises : (t bucket : ℕ) (name : List ℕ) (rule : Option Rule) (M : State C) → M.next_version ≤ (pass_on t bucket name rule M).next_version
+  on_name_rises t bucket name None M = omega arith
+  on_name_rises t bucket name (Some rule) M =
+      if_rises (is_due t rule (of_name M bucket name) && nat_le M.next_version M.settings.last_version) M (with_version (marker bucket M.next_version name t) M) (omega arith)
+
+  on_names_rises : (t : ℕ) (bucket : Bucket) (names : List (List ℕ)) (M : State C) → M.next_version ≤ (pass_names t bucket names M).next_version
+  on_names_rises t bucket [] M = omega arith
+  on_names_rises t bucket (name ∷ names) M =
+      let N = pass_on t bucket.num name (rule_for bucket name) M in
+      let first = on_name_rises t bucket.num name (rule_for bucket name) M in
+      let rest = on_names_rises t bucket names N in
+      omega (arith, first, rest)
+
+  pub each_rises : (t : ℕ) (buckets : List Bucket) (M : State C) → M.next_version ≤ (pass_each t buckets M).next_version
+  each_rises t [] M = omega arith
+  each_rises t (b ∷ rest) M =
+      let N = pass_names t b (names_in (rows M b.num)) M in
+      let first = on_names_rises t b (names_in (rows M b.num)) M in
+      let later = each_rises t rest N in
+      omega (arith, first, later)
 
   pub pass_sound : (t : ℕ) (M : State C) → AreVersions M.buckets M.next_version M.versions → AreVersions M.buckets (pass t M).next_version (pass t M).versions
   pass_sound t M sound = each_sound M.buckets t M.buckets M (all_among M.buckets) sound

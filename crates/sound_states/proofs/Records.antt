@@ -1,5 +1,5 @@
 -- Each record that applies keeps a state sound.
-use Rattle.std.proofs.Common.{◌≡◌, ℕ, ◌+◌, ◌<◌, ◌==◌, nat_lt, nat_le, max, Bool, true, false, not, ◌&&◌, List, [], ◌∷◌, ◌++◌, Option, map, filter, length, if◌then◌else◌, refl, sym, ap, subst, ◌∙◌, arith}
+use Rattle.std.proofs.Common.{◌≡◌, ℕ, ◌+◌, ◌<◌, ◌≤◌, ◌==◌, ◌/◌, nat_lt, nat_le, max, Bool, true, false, not, ◌&&◌, List, [], ◌∷◌, ◌++◌, Option, map, filter, length, if◌then◌else◌, refl, sym, ap, subst, ◌∙◌, arith}
 use Rattle.std.specs.Option.{is_some, is_none}
 use Rattle.std.specs.List.{list_any}
 use Rattle.std.proofs.lemmas.Bool.{false≢true}
@@ -17,24 +17,25 @@ use Rattle.b2_types.specs.declared.record.ChangeOf.{ChangeOf}
 use Rattle.b2_types.specs.declared.record.ChangeOf.TheVariants as change
 use Rattle.b2_types.specs.declared.version.PartOf.{PartOf}
 use Rattle.b2_types.specs.declared.version.VersionOf.{VersionOf}
-use Rattle.b2_model.specs.Kinds.{is_upload, is_start}
+use Rattle.b2_model.specs.Kinds.{is_upload, is_start, day}
 use Rattle.b2_model.specs.State.{State, bucket_at, key_at}
 use Rattle.b2_model.specs.Lists.{put_by}
 use Rattle.b2_types.specs.LifecycleRules.{are_rules}
 use Rattle.b2_model.specs.Plan.{number_end}
 use Rattle.b2_model.specs.Version.{no_digest, marker, version_from, is_it, with_part}
 use Rattle.b2_model.specs.Finish.{finished_file}
-use Rattle.b2_model.specs.Stored.{is_large, stands, may_make, may_be, is_number, applies_change}
+use Rattle.b2_model.specs.Stored.{numbers_of, is_snap_state, is_large, stands, may_make, may_be, is_number, applies_change}
 use Rattle.b2_model.specs.Pass.{pass}
 use Rattle.b2_model.specs.Changes.{after_record}
 use Rattle.machine_laws.proofs.PassKeeps.{on_each}
-use Rattle.sound_states.specs.Sound.{IsAscending, IsAmong, IsUpload, Holds, AreBuckets, AreVersions, AreKeys, IsSound, IsUploadMark, IsFitChange}
+use Rattle.sound_states.specs.Sound.{IsAscending, IsAmong, IsUpload, Holds, AreBuckets, AreVersions, AreKeys, AreTokens, AreFlights, IsSound, IsUploadMark, IsFitChange}
 use Rattle.sound_states.proofs.Ascending.{ascends_nil, put_ascends, not_among}
 use Rattle.sound_states.proofs.Tests.{both_hold, is_not, above_zero, less, at_most, not_found, found}
 use Rattle.sound_states.proofs.Buckets.{made as bucket_made, changed as bucket_changed, fewer as fewer_buckets, renumbered as buckets_renumbered, has_name}
 use Rattle.sound_states.proofs.Keys.{made as key_made, dropped as key_dropped, renumbered as keys_renumbered}
 use Rattle.sound_states.proofs.Versions.{made as version_made, changed as version_changed, fewer as fewer_versions, more_buckets, changed_bucket, dropped_bucket, renumbered as versions_renumbered}
-use Rattle.sound_states.proofs.Passed.{pass_sound}
+use Rattle.sound_states.proofs.Passed.{pass_sound, each_rises}
+use Rattle.sound_states.proofs.Tokens.{no_tokens, no_flights, tokens_later, fewer_tokens, is_kept, kept_flights}
 
 -- what a new number is
 number_tells : (n : ℕ) → is_number n ≡ true → (0 < n) × (n < number_end)
@@ -65,12 +66,13 @@ module _ {C : Type 0} where
       version_made M.buckets M.next_version M.versions v sound.versions tells.above tells.free tells.placed holds
 
   -- a state whose versions are others
-  other_versions : (M : State C) (t next : ℕ) (versions : List (VersionOf C)) → IsSound M → AreVersions M.buckets next versions
+  other_versions : (M : State C) (t next : ℕ) (versions : List (VersionOf C)) → M.next_version ≤ next → IsSound M → AreVersions M.buckets next versions
       → IsSound (record M { now = t; kept = t; versions = versions; next_version = next })
-  other_versions M t next versions sound are = record {
+  other_versions M t next versions rises sound are = record {
     buckets = sound.buckets;
     versions = are;
     keys = sound.keys;
+    tokens = tokens_later (numbers_of M) _ M.serial M.grants (record { boot = refl; buckets = omega arith; keys = omega arith; versions = rises }) sound.tokens;
     flights = sound.flights;
     moments = omega arith;
   }
@@ -80,12 +82,12 @@ module _ {C : Type 0} where
       → ((v : VersionOf C) → (f v).num ≡ v.num) → ((v : VersionOf C) → (f v).bucket ≡ v.bucket) → ((v : VersionOf C) → test v ≡ true → Holds v.action v → Holds (f v).action (f v))
       → IsSound (record M { now = t; kept = t; versions = map (λ v. if is_it id v then f v else v) M.versions })
   at_one M t id test f sound there nums buckets holds =
-      other_versions M t M.next_version (map (λ v. if is_it id v then f v else v) M.versions) sound
+      other_versions M t M.next_version (map (λ v. if is_it id v then f v else v) M.versions) (omega arith) sound
       (version_changed M.buckets M.next_version M.versions id test f sound.versions there nums buckets holds)
 
   without : (M : State C) (t : ℕ) (id : VersionId) → IsSound M → IsSound (record M { now = t; kept = t; versions = filter (λ v. not (is_it id v)) M.versions })
   without M t id sound =
-      other_versions M t M.next_version (filter (λ v. not (is_it id v)) M.versions) sound (fewer_versions M.buckets M.next_version (λ v. not (is_it id v)) M.versions sound.versions)
+      other_versions M t M.next_version (filter (λ v. not (is_it id v)) M.versions) (omega arith) sound (fewer_versions M.buckets M.next_version (λ v. not (is_it id v)) M.versions sound.versions)
 
   -- ---- what versions hold
 
@@ -166,6 +168,7 @@ module _ {C : Type 0} where
         buckets = bucket_made M.next_bucket M.buckets b sound.buckets number.0 number.1 free (is_not (list_any (has_name b) M.buckets) may.0) may.1;
         versions = more_buckets M.buckets b M.next_version M.versions sound.versions;
         keys = sound.keys;
+        tokens = tokens_later (numbers_of M) _ M.serial M.grants (record { boot = refl; buckets = omega arith; keys = omega arith; versions = omega arith }) sound.tokens;
         flights = sound.flights;
         moments = omega arith;
       }
@@ -178,6 +181,7 @@ module _ {C : Type 0} where
         buckets = bucket_changed M.next_bucket M.buckets b sound.buckets (is_not (list_any (has_name b) M.buckets) may.0) may.1;
         versions = changed_bucket M.buckets b M.next_version M.versions sound.versions;
         keys = sound.keys;
+        tokens = sound.tokens;
         flights = sound.flights;
         moments = omega arith;
       }
@@ -189,6 +193,7 @@ module _ {C : Type 0} where
         buckets = fewer_buckets M.next_bucket (λ b. not (b.num == n)) M.buckets sound.buckets;
         versions = dropped_bucket M.buckets n M.next_version M.versions (is_not (list_any (λ v. v.bucket == n) M.versions) all.1) sound.versions;
         keys = sound.keys;
+        tokens = sound.tokens;
         flights = sound.flights;
         moments = omega arith;
       }
@@ -201,6 +206,7 @@ module _ {C : Type 0} where
         buckets = sound.buckets;
         versions = sound.versions;
         keys = key_made M.settings M.next_key M.keys k sound.keys number.0 number.1 (not_found (λ a. a.num == k.num) M.keys all.1);
+        tokens = tokens_later (numbers_of M) _ M.serial M.grants (record { boot = refl; buckets = omega arith; keys = omega arith; versions = omega arith }) sound.tokens;
         flights = sound.flights;
         moments = omega arith;
       }
@@ -212,9 +218,14 @@ module _ {C : Type 0} where
         buckets = sound.buckets;
         versions = sound.versions;
         keys = key_dropped M.settings M.next_key n M.keys sound.keys (above_zero n all.0);
+        tokens = sound.tokens;
         flights = sound.flights;
         moments = omega arith;
       }
+
+  -- what a pass makes of a state after its work on names
+  abbrev forgotten : ℕ → State C → State C
+  forgotten t N = record N { now = t; kept = t; pass_day = t / day; grants = filter (is_kept t N.flights) N.grants }
 
   -- a pass changes versions alone, and tokens
   passed : (M : State C) (t : ℕ) → IsSound M → IsSound (after_record M (record { at = t; change = change.Pass }))
@@ -226,52 +237,60 @@ module _ {C : Type 0} where
         buckets = subst (λ N. AreBuckets N.next_bucket N.buckets) (sym others) sound.buckets;
         versions = subst (λ bs. AreVersions bs (pass t M).next_version (pass t M).versions) (sym same_buckets) (pass_sound t M sound.versions);
         keys = subst (λ N. AreKeys N.settings N.next_key N.keys) (sym others) sound.keys;
-        flights = subst (λ N. IsAscending (λ f. f.conn) N.flights) (sym others) sound.flights;
+        tokens = subst (λ N. AreTokens (numbers_of (forgotten t N)) N.serial (forgotten t N).grants) (sym others)
+            (fewer_tokens _ M.serial (is_kept t M.flights) M.grants (tokens_later (numbers_of M) _ M.serial M.grants
+            (record { boot = refl; buckets = omega arith; keys = omega arith; versions = each_rises t M.buckets M }) sound.tokens));
+        flights = subst (λ N. AreFlights (forgotten t N).grants N.flights) (sym others) (kept_flights t M.grants M.flights sound.flights);
         moments = omega arith;
       }
 
-  pub record_sound : (M : State C) (t : ℕ) (ch : ChangeOf C) → IsSound M → applies_change M ch ≡ true → IsFitChange ch → IsSound (after_record M (record { at = t; change = ch }))
-  record_sound M t (change.Settings s) sound is fit = absurd (false≢true is)
-  record_sound M t (change.Boot n) sound is fit = record { buckets = sound.buckets; versions = sound.versions; keys = sound.keys; flights = ascends_nil (λ f. f.conn); moments = omega arith }
-  record_sound M t change.Pass sound is fit = passed M t sound
-  record_sound M t (change.BucketMake b) sound is fit = bucket_put M t b sound is
-  record_sound M t (change.BucketUpdate b) sound is fit = bucket_set M t b sound is
-  record_sound M t (change.BucketDrop n) sound is fit = bucket_gone M t n sound is
-  record_sound M t (change.Upload v content m digest) sound is fit =
+  -- the numbers of a snapshot come before any token is given
+  abbrev pub ComesFirst : State C → ChangeOf C → Type 0
+  ComesFirst M ch = is_snap_state ch ≡ true → M.grants ≡ []
+
+  pub record_sound : (M : State C) (t : ℕ) (ch : ChangeOf C) → IsSound M → applies_change M ch ≡ true → IsFitChange ch → ComesFirst M ch → IsSound (after_record M (record { at = t; change = ch }))
+  record_sound M t (change.Settings s) sound is fit first = absurd (false≢true is)
+  record_sound M t (change.Boot n) sound is fit first = record { buckets = sound.buckets; versions = sound.versions; keys = sound.keys; tokens = no_tokens _ 0 (omega arith); flights = no_flights []; moments = omega arith }
+  record_sound M t change.Pass sound is fit first = passed M t sound
+  record_sound M t (change.BucketMake b) sound is fit first = bucket_put M t b sound is
+  record_sound M t (change.BucketUpdate b) sound is fit first = bucket_set M t b sound is
+  record_sound M t (change.BucketDrop n) sound is fit first = bucket_gone M t n sound is
+  record_sound M t (change.Upload v content m digest) sound is fit first =
       let w = version_from t action.Upload (content ∷ []) m digest v in
-      other_versions M t (max M.next_version (v.num + 1)) (put_by (λ x. x.num) w M.versions) sound (with_new M w sound is (upload_holds t v content m digest fit))
-  record_sound M t (change.Hide id name) sound is fit =
+      other_versions M t (max M.next_version (v.num + 1)) (put_by (λ x. x.num) w M.versions) (omega arith) sound (with_new M w sound is (upload_holds t v content m digest fit))
+  record_sound M t (change.Hide id name) sound is fit first =
       let w = marker id.bucket id.num name t in
-      other_versions M t (max M.next_version (id.num + 1)) (put_by (λ x. x.num) w M.versions) sound (with_new M w sound is refl)
-  record_sound M t (change.Start v) sound is fit =
+      other_versions M t (max M.next_version (id.num + 1)) (put_by (λ x. x.num) w M.versions) (omega arith) sound (with_new M w sound is refl)
+  record_sound M t (change.Start v) sound is fit first =
       let w = version_from t action.Start [] mark.Large no_digest v in
-      other_versions M t (max M.next_version (v.num + 1)) (put_by (λ x. x.num) w M.versions) sound (with_new M w sound is (start_holds t v))
-  record_sound M t (change.PartPut id n content m digest) sound is fit =
+      other_versions M t (max M.next_version (v.num + 1)) (put_by (λ x. x.num) w M.versions) (omega arith) sound (with_new M w sound is (start_holds t v))
+  record_sound M t (change.PartPut id n content m digest) sound is fit first =
       let p : PartOf C = record { number = n; content = content; mark = m; digest = digest; stamp = t } in
       at_one M t id (λ v. is_start v.action) (with_part p) sound is (λ v. refl) (λ v. refl) (λ v start holds. part_holds p v v.action refl start holds)
-  record_sound M t (change.Finish id retention) sound is fit =
+  record_sound M t (change.Finish id retention) sound is fit first =
       at_one M t id (λ v. is_start v.action) (finished_file retention) sound is (λ v. refl) (λ v. refl) (λ v start holds. finish_holds retention v v.action start holds)
-  record_sound M t (change.Cancel id) sound is fit = without M t id sound
-  record_sound M t (change.VersionDrop id) sound is fit = without M t id sound
-  record_sound M t (change.Retain id retention) sound is fit =
+  record_sound M t (change.Cancel id) sound is fit first = without M t id sound
+  record_sound M t (change.VersionDrop id) sound is fit first = without M t id sound
+  record_sound M t (change.Retain id retention) sound is fit first =
       at_one M t id (λ v. is_upload v.action) (λ v. record v { retention = retention }) sound is (λ v. refl) (λ v. refl) (λ v up holds. retain_holds retention v v.action up holds)
-  record_sound M t (change.Hold id hold) sound is fit =
+  record_sound M t (change.Hold id hold) sound is fit first =
       at_one M t id (λ v. is_upload v.action) (λ v. record v { hold = hold }) sound is (λ v. refl) (λ v. refl) (λ v up holds. hold_holds hold v v.action up holds)
-  record_sound M t (change.KeyMake k) sound is fit = key_put M t k sound is
-  record_sound M t (change.KeyDrop n) sound is fit = key_gone M t n sound is
-  record_sound M t (change.SnapState n) sound is fit =
+  record_sound M t (change.KeyMake k) sound is fit first = key_put M t k sound is
+  record_sound M t (change.KeyDrop n) sound is fit first = key_gone M t n sound is
+  record_sound M t (change.SnapState n) sound is fit first =
       let all = both_hold (nat_le M.next_bucket n.next_bucket && nat_le M.next_key n.next_key) (nat_le M.next_version n.next_version) is in
-      let first = both_hold (nat_le M.next_bucket n.next_bucket) (nat_le M.next_key n.next_key) all.0 in
+      let both = both_hold (nat_le M.next_bucket n.next_bucket) (nat_le M.next_key n.next_key) all.0 in
       record {
-        buckets = buckets_renumbered M.next_bucket n.next_bucket M.buckets (at_most M.next_bucket n.next_bucket first.0) fit.0 sound.buckets;
+        buckets = buckets_renumbered M.next_bucket n.next_bucket M.buckets (at_most M.next_bucket n.next_bucket both.0) fit.0 sound.buckets;
         versions = versions_renumbered M.buckets M.next_version n.next_version M.versions (at_most M.next_version n.next_version all.1) sound.versions;
-        keys = keys_renumbered M.settings M.next_key n.next_key M.keys (at_most M.next_key n.next_key first.1) fit.1 sound.keys;
+        keys = keys_renumbered M.settings M.next_key n.next_key M.keys (at_most M.next_key n.next_key both.1) fit.1 sound.keys;
+        tokens = subst (AreTokens _ M.serial) (sym (first refl)) (no_tokens _ M.serial sound.tokens.last);
         flights = sound.flights;
         moments = omega arith;
       }
-  record_sound M t (change.SnapLarge v) sound is fit =
+  record_sound M t (change.SnapLarge v) sound is fit first =
       let w = version_from t action.Upload [] mark.Large no_digest v in
-      other_versions M t (max M.next_version (v.num + 1)) (put_by (λ x. x.num) w M.versions) sound (with_new M w sound is (refl, refl))
-  record_sound M t (change.SnapExtents id pieces) sound is fit =
+      other_versions M t (max M.next_version (v.num + 1)) (put_by (λ x. x.num) w M.versions) (omega arith) sound (with_new M w sound is (refl, refl))
+  record_sound M t (change.SnapExtents id pieces) sound is fit first =
       at_one M t id (λ v. is_large v.mark && is_upload v.action) (λ v. record v { content = v.content ++ pieces }) sound is (λ v. refl) (λ v. refl)
       (λ v large holds. pieces_hold pieces v v.action large holds)

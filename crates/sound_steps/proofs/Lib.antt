@@ -1,5 +1,6 @@
 pub mod Plans
+pub mod NewTokens
+pub mod Begun
 pub mod Outcomes
-pub mod Numbers
 pub mod TokenTexts
-pub mod Tokens
+pub mod TokenOrder

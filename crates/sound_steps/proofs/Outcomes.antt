@@ -1,12 +1,10 @@
 -- Each step keeps a state sound.
-use Rattle.std.proofs.Common.{◌≡◌, ℕ, ◌+◌, ◌<◌, ◌≤◌, ◌==◌, ◌/◌, nat_lt, Bool, true, false, not, List, [], ◌∷◌, All, Option, Some, None, find, fold, if◌then◌else◌, refl, sym, ap, subst, ◌∙◌, arith}
+use Rattle.std.proofs.Common.{◌≡◌, ℕ, ◌+◌, ◌≤◌, ◌==◌, ◌/◌, nat_lt, Bool, true, false, not, List, [], ◌∷◌, All, Option, Some, None, find, fold, if◌then◌else◌, refl, sym, ap, subst, ◌∙◌, arith}
 use Rattle.std.specs.Option.{is_some, is_none}
 use Rattle.std.proofs.lemmas.Bool.{false≢true}
 use Rattle.std.proofs.lemmas.Bool.Decides.{nat_tests}
 use Rattle.std.proofs.lemmas.List.Elements.{All-head, All-tail}
-use Rattle.std.proofs.lemmas.List.Kept.{AllPairs-filter}
 use Rattle.b2_types.specs.declared.fault.Fault.{Fault}
-use Rattle.b2_types.specs.declared.key.Grant.{Grant}
 use Rattle.b2_types.specs.declared.key.Flight.{Flight}
 use Rattle.b2_types.specs.declared.call.Call.{Call}
 use Rattle.b2_types.specs.declared.upload.UploadCall.{UploadCall}
@@ -19,8 +17,8 @@ use Rattle.b2_model.specs.State.{State, Pieces}
 use Rattle.b2_model.specs.Plan.{Plan}
 use Rattle.b2_model.specs.Policy.{caller_of}
 use Rattle.b2_model.specs.Stored.{applies_change}
-use Rattle.b2_model.specs.Ask.{ask, at_moment, plan_of, shown_by, refusals_of, is_open, first_rules, outcome_or_refusal, with_change, with_grant}
-use Rattle.b2_model.specs.UploadSteps.{begin, begin_as, begin_refusals, new_flight, end, end_plan, upload_rules, without_flight, flight_of}
+use Rattle.b2_model.specs.Ask.{ask, at_moment, plan_of, shown_by, refusals_of, is_open, first_rules, outcome_or_refusal, with_change}
+use Rattle.b2_model.specs.UploadSteps.{begin, begin_as, begin_refusals, end, end_plan, upload_rules, without_flight, flight_of}
 use Rattle.b2_model.specs.Run.{Step, asks, begins, ends, loses, passes, restarts, Progress, moment, with_pass, with_restart, at_kept, start_of, with_state, with_end, begin_step, answer_to, state_after, step, run}
 use Rattle.machine_laws.specs.Rules.{end_refusals}
 use Rattle.machine_laws.proofs.Moments.{answer_state}
@@ -28,32 +26,29 @@ use Rattle.machine_laws.proofs.Passed.{none_in}
 use Rattle.machine_laws.proofs.PassKeeps.{passed_flights}
 use Rattle.sound_states.specs.Sound.{IsSound}
 use Rattle.sound_steps.specs.FitSteps.{IsFitCall, IsFitStep, Applies}
-use Rattle.sound_states.proofs.Ascending.{put_ascends, not_among}
 use Rattle.sound_states.proofs.Tests.{not_found}
 use Rattle.sound_states.proofs.Records.{record_sound}
 use Rattle.sound_steps.proofs.Plans.{all_pass, plan_fits, end_fits}
+use Rattle.sound_steps.proofs.NewTokens.{Gives, asks_given, plan_new, end_new, granted}
+use Rattle.sound_steps.proofs.Begun.{Begins, begins_well, with_begun, fewer_flights}
 
 module _ {C : Type 0} where
   -- ---- moments, tokens and uploads under way
 
   pub moved : (M : State C) (t : ℕ) → M.kept ≤ t → IsSound M → IsSound (at_moment M t)
-  moved M t later sound = record { buckets = sound.buckets; versions = sound.versions; keys = sound.keys; flights = sound.flights; moments = later }
+  moved M t later sound = record { buckets = sound.buckets; versions = sound.versions; keys = sound.keys; tokens = sound.tokens; flights = sound.flights; moments = later }
 
   moved_applies : (M : State C) (t : ℕ) (ch : ChangeOf C) → applies_change (at_moment M t) ch ≡ applies_change M ch
   moved_applies M t change.Pass = refl
   moved_applies M t other = refl
 
-  granted : (M : State C) (o : Option Grant) → IsSound M → IsSound (with_grant o M)
-  granted M None sound = sound
-  granted M (Some g) sound = record { buckets = sound.buckets; versions = sound.versions; keys = sound.keys; flights = sound.flights; moments = sound.moments }
-
   recorded : (M : State C) (t : ℕ) (o : Option (ChangeOf C)) → M.kept ≤ t → IsSound M → Applies M o → IsSound (with_change (at_moment M t) t o)
   recorded M t None later sound applies = moved M t later sound
-  recorded M t (Some ch) later sound applies = record_sound (at_moment M t) t ch (moved M t later sound) (moved_applies M t ch ∙ applies.0) applies.1
+  recorded M t (Some ch) later sound applies = record_sound (at_moment M t) t ch (moved M t later sound) (moved_applies M t ch ∙ applies.0) applies.1 (λ first. absurd (false≢true (sym applies.2 ∙ first)))
 
-  outcome_sound : (M : State C) (t : ℕ) (words : List ℕ) (p : Plan C) (o : Option Fault) → M.kept ≤ t → IsSound M → (o ≡ None → Applies M p.change) → IsSound (outcome_or_refusal M t words p o).state
-  outcome_sound M t words p (Some fault) later sound applies = moved M t later sound
-  outcome_sound M t words p None later sound applies = granted (with_change (at_moment M t) t p.change) p.grant (recorded M t p.change later sound (applies refl))
+  outcome_sound : (M : State C) (t : ℕ) (words : List ℕ) (p : Plan C) (o : Option Fault) → M.kept ≤ t → IsSound M → (o ≡ None → Applies M p.change) → (o ≡ None → Gives M p.grant p.change) → IsSound (outcome_or_refusal M t words p o).state
+  outcome_sound M t words p (Some fault) later sound applies gives = moved M t later sound
+  outcome_sound M t words p None later sound applies gives = granted M t p.grant p.change (recorded M t p.change later sound (applies refl)) (gives refl)
 
   -- the record of a call that is not refused
   pub ask_applies : (K : Pieces C) (M : State C) (t : ℕ) (words : List ℕ) (token : Option (List ℕ)) (c : Call) → IsSound M → IsFitCall c
@@ -62,9 +57,16 @@ module _ {C : Type 0} where
       let p = plan_of K M t words token c in
       plan_fits K M t words (shown_by M token c) c sound fit (all_pass p.own (none_in (if is_open M c then p.exists else first_rules M t (caller_of M token) c p.exists) p.own none).1)
 
+  -- the token of a call that is not refused
+  pub ask_new : (K : Pieces C) (M : State C) (t : ℕ) (words : List ℕ) (token : Option (List ℕ)) (c : Call) → IsSound M → first_fault (refusals_of K M t words token c) ≡ None
+      → Gives M (plan_of K M t words token c).grant (plan_of K M t words token c).change
+  ask_new K M t words token c sound none =
+      let p = plan_of K M t words token c in
+      plan_new K M t words (shown_by M token c) c sound (asks_given M token c sound) (all_pass p.own (none_in (if is_open M c then p.exists else first_rules M t (caller_of M token) c p.exists) p.own none).1)
+
   pub ask_sound : (K : Pieces C) (M : State C) (t : ℕ) (words : List ℕ) (token : Option (List ℕ)) (c : Call) → M.kept ≤ t → IsSound M → IsFitCall c → IsSound (ask K M t words token c).state
   ask_sound K M t words token c later sound fit =
-      outcome_sound M t words (plan_of K M t words token c) (first_fault (refusals_of K M t words token c)) later sound (ask_applies K M t words token c sound fit)
+      outcome_sound M t words (plan_of K M t words token c) (first_fault (refusals_of K M t words token c)) later sound (ask_applies K M t words token c sound fit) (ask_new K M t words token c sound)
 
   -- ---- uploads
 
@@ -73,7 +75,8 @@ module _ {C : Type 0} where
     buckets = sound.buckets;
     versions = sound.versions;
     keys = sound.keys;
-    flights = AllPairs-filter (λ f g. f.conn < g.conn) (λ f. not (f.conn == conn)) M.flights sound.flights;
+    tokens = sound.tokens;
+    flights = fewer_flights M (λ f. not (f.conn == conn)) sound.flights;
     moments = later;
   }
 
@@ -90,15 +93,17 @@ module _ {C : Type 0} where
       let N = without_flight M t f.conn in
       let who = caller_of N (Some f.token) in
       outcome_sound N t words (end_plan size N t who.key body f.upload) (first_fault (end_refusals size M t f body)) later (landed M t f.conn later sound)
-      (end_applies size M t f body (landed M t f.conn later sound))
+      (end_applies size M t f body (landed M t f.conn later sound)) (λ none. end_new size N t who.key body f.upload)
 
-  begun_sound : (M : State C) (t conn : ℕ) (token : Option (List ℕ)) (u : UploadCall) (o : Option Fault) → M.kept ≤ t → IsSound M → is_some (flight_of M conn) ≡ false → IsSound (begin_as M t conn token u o).state
-  begun_sound M t conn token u (Some fault) later sound free = moved M t later sound
-  begun_sound M t conn token u None later sound free = record {
+  begun_sound : (M : State C) (t conn : ℕ) (token : Option (List ℕ)) (u : UploadCall) (o : Option Fault) → M.kept ≤ t → IsSound M → is_some (flight_of M conn) ≡ false → (o ≡ None → Begins M token u)
+      → IsSound (begin_as M t conn token u o).state
+  begun_sound M t conn token u (Some fault) later sound free well = moved M t later sound
+  begun_sound M t conn token u None later sound free well = record {
     buckets = sound.buckets;
     versions = sound.versions;
     keys = sound.keys;
-    flights = put_ascends (λ f. f.conn) (new_flight conn token u) M.flights sound.flights (not_among (λ f. f.conn) conn M.flights (not_found (λ f. f.conn == conn) M.flights (no_some (flight_of M conn) free)));
+    tokens = sound.tokens;
+    flights = with_begun M conn token u sound.flights (not_found (λ f. f.conn == conn) M.flights (no_some (flight_of M conn) free)) (well refl);
     moments = later;
   }
     where
@@ -107,12 +112,12 @@ module _ {C : Type 0} where
       no_some (Some f) free = absurd (false≢true (sym free))
 
   pub begin_sound : (M : State C) (t conn : ℕ) (token : Option (List ℕ)) (u : UploadCall) → M.kept ≤ t → IsSound M → is_some (flight_of M conn) ≡ false → IsSound (begin M t conn token u).state
-  begin_sound M t conn token u later sound free = begun_sound M t conn token u (first_fault (begin_refusals M t token u)) later sound free
+  begin_sound M t conn token u later sound free = begun_sound M t conn token u (first_fault (begin_refusals M t token u)) later sound free (begins_well M t token u)
 
   -- ---- steps
 
   pub with_pass_sound : (M : State C) (t : ℕ) → IsSound M → IsSound (with_pass M t)
-  with_pass_sound M t sound = record_sound M t change.Pass sound refl tt
+  with_pass_sound M t sound = record_sound M t change.Pass sound refl tt (λ first. absurd (false≢true first))
 
   either : (P : State C → Type 0) (b : Bool) (M N : State C) → P M → P N → P (if b then M else N)
   either P true M N first second = first
@@ -149,7 +154,7 @@ module _ {C : Type 0} where
   opened : (M : State C) (t : ℕ) → IsSound M → IsSound (with_restart (at_kept M) t)
   opened M t sound =
       let next : nat_lt M.boot (M.boot + 1) ≡ true = grind (arith, nat_tests) in
-      record_sound (at_kept M) t (change.Boot (M.boot + 1)) (record { buckets = sound.buckets; versions = sound.versions; keys = sound.keys; flights = sound.flights; moments = omega arith }) next tt
+      record_sound (at_kept M) t (change.Boot (M.boot + 1)) (record { buckets = sound.buckets; versions = sound.versions; keys = sound.keys; tokens = sound.tokens; flights = sound.flights; moments = omega arith }) next tt (λ first. absurd (false≢true first))
 
   after_sound : (K : Pieces C) (P : Progress C) (s : Step C) → IsSound P.state → IsFitStep s → IsSound (state_after K P s).state
   after_sound K P (asks reading token c) sound fit =

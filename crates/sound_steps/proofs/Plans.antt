@@ -142,6 +142,7 @@ module _ {C : Type 0} where
             (holds_both (is_number M.next_bucket) (is_none (bucket_at M M.next_bucket)) number (none_found (λ a. a.num == M.next_bucket) M.buckets free))
             (holds_both (not (list_any (has_name b) M.buckets)) (are_rules b.rules) (ap not names) fit),
         tt,
+        refl,
       )
 
   update_fits : (M : State C) (key : Option Key) (c : UpdateBucket) → IsSound M → are_rules (unwrap_or c.rules []) ≡ true → Fits M (update_bucket M key c)
@@ -151,13 +152,14 @@ module _ {C : Type 0} where
         holds_both (is_some (bucket_at M b.num)) (may_be M (updated_bucket c b)) (ap is_some (bucket_again M c.bucket b is))
             (holds_both (not (list_any (has_name b) M.buckets)) (are_rules (unwrap_or c.rules b.rules)) (ap not names) (updated_rules c.rules b.rules fit rules)),
         tt,
+        refl,
       ))
 
   create_key_fits : (M : State C) (key : Option Key) (t : ℕ) (words : List ℕ) (c : CreateKey) → IsSound M → Fits M (create_key M key t words c)
   create_key_fits M key t words c sound none =
       let number = a_number M.next_key sound.keys.first sound.keys.last none.1.1.0 in
       let free = free_number (λ k. k.num) M.next_key M.keys sound.keys.given in
-      (holds_both (is_number M.next_key) (is_none (key_at M M.next_key)) number (none_found (λ k. k.num == M.next_key) M.keys free), tt)
+      (holds_both (is_number M.next_key) (is_none (key_at M M.next_key)) number (none_found (λ k. k.num == M.next_key) M.keys free), tt, refl)
 
   delete_key_fits : (M : State C) (k : Key) (id : List ℕ) → key_of_id M id ≡ Some k → (k.num == 0) ≡ false → applies_change M (change.KeyDrop k.num) ≡ true
   delete_key_fits M k id is other =
@@ -167,38 +169,38 @@ module _ {C : Type 0} where
   file_copy_fits : (P : Pieces C) (M : State C) (key : Option Key) (t : ℕ) (c : CopyFile) (n : ℕ) (b : Option Bucket) (v : Option (VersionOf C)) → IsSound M → bucket_at M n ≡ b → Fits M (file_copy_on P M key t c b v)
   file_copy_fits P M key t c n None v sound is none = tt
   file_copy_fits P M key t c n (Some b) None sound is none = tt
-  file_copy_fits P M key t c n (Some b) (Some v) sound is none = (next_may M sound b.num (ap is_some (bucket_again M n b is)), tt)
+  file_copy_fits P M key t c n (Some b) (Some v) sound is none = (next_may M sound b.num (ap is_some (bucket_again M n b is)), tt, refl)
 
   part_copy_fits : (P : Pieces C) (M : State C) (t : ℕ) (c : CopyPart) (bucket num : ℕ) (v large : Option (VersionOf C)) → version_at M bucket num ≡ large → Fits M (part_copy_on P t c v large)
   part_copy_fits P M t c bucket num None large is none = tt
   part_copy_fits P M t c bucket num (Some v) None is none = tt
   part_copy_fits P M t c bucket num (Some v) (Some large) is none =
-      (it_stands M bucket num large (λ w. is_start w.action) is (not_not (is_start large.action) none.1.0), tt)
+      (it_stands M bucket num large (λ w. is_start w.action) is (not_not (is_start large.action) none.1.0), tt, refl)
 
   pub plan_fits : (P : Pieces C) (M : State C) (t : ℕ) (words : List ℕ) (key : Option Key) (c : Call) → IsSound M → IsFitCall c → Fits M (plan P M t words key c)
   plan_fits P M t words key (call.AuthorizeAccount c) sound fit = nothing M _ (authorize_plan c.version M t words) (option_and_then (key_by M) c.credentials) (λ k. refl)
   plan_fits P M t words key (call.CreateBucket c) sound fit = create_fits M key c sound fit
   plan_fits P M t words key (call.UpdateBucket c) sound fit = update_fits M key c sound fit
   plan_fits P M t words key (call.DeleteBucket c) sound fit = there M NoBucket _ (bucket_at M c.bucket) (λ b is none.
-      (holds_both (is_some (bucket_at M b.num)) (not (list_any (λ v. v.bucket == b.num) M.versions)) (ap is_some (bucket_again M c.bucket b is)) (ap not none.0), tt))
+      (holds_both (is_some (bucket_at M b.num)) (not (list_any (λ v. v.bucket == b.num) M.versions)) (ap is_some (bucket_again M c.bucket b is)) (ap not none.0), tt, refl))
   plan_fits P M t words key (call.ListBuckets c) sound fit = λ none. tt
   plan_fits P M t words key (call.CreateKey c) sound fit = create_key_fits M key t words c sound
-  plan_fits P M t words key (call.DeleteKey c) sound fit = there M NoKey (drop_key c.version M) (key_of_id M c.key) (λ k is none. (delete_key_fits M k c.key is none.0, tt))
+  plan_fits P M t words key (call.DeleteKey c) sound fit = there M NoKey (drop_key c.version M) (key_of_id M c.key) (λ k is none. (delete_key_fits M k c.key is none.0, tt, refl))
   plan_fits P M t words key (call.ListKeys c) sound fit = λ none. tt
   plan_fits P M t words key (call.GetUploadUrl c) sound fit = nothing M NoBucket _ (bucket_at M c.bucket) (λ b. refl)
-  plan_fits P M t words key (call.StartLargeFile c) sound fit = there M NoBucket _ (bucket_at M c.bucket) (λ b is none. (next_may M sound c.bucket (ap is_some is), tt))
+  plan_fits P M t words key (call.StartLargeFile c) sound fit = there M NoBucket _ (bucket_at M c.bucket) (λ b is none. (next_may M sound c.bucket (ap is_some is), tt, refl))
   plan_fits P M t words key (call.GetUploadPartUrl c) sound fit = nothing M NoFile _ (version_at M c.bucket c.file) (λ v. refl)
   plan_fits P M t words key (call.ListParts c) sound fit = nothing M NoFile _ (version_at M c.bucket c.file) (λ v. refl)
   plan_fits P M t words key (call.FinishLargeFile c) sound fit = there M NoFile _ (version_at M c.bucket c.file) (λ v is none.
-      (it_stands M c.bucket c.file v (λ w. is_start w.action) is (not_not (is_start v.action) none.0), tt))
+      (it_stands M c.bucket c.file v (λ w. is_start w.action) is (not_not (is_start v.action) none.0), tt, refl))
   plan_fits P M t words key (call.CancelLargeFile c) sound fit = there M NoFile _ (version_at M c.bucket c.file) (λ v is none.
-      (it_stands M c.bucket c.file v (λ w. is_start w.action) is (not_not (is_start v.action) none.0), tt))
+      (it_stands M c.bucket c.file v (λ w. is_start w.action) is (not_not (is_start v.action) none.0), tt, refl))
   plan_fits P M t words key (call.ListUnfinishedLargeFiles c) sound fit = nothing M NoBucket _ (bucket_at M c.bucket) (λ b. refl)
   plan_fits P M t words key (call.ListFileNames c) sound fit = nothing M NoBucket _ (bucket_at M c.bucket) (λ b. refl)
   plan_fits P M t words key (call.ListFileVersions c) sound fit = nothing M NoBucket _ (bucket_at M c.bucket) (λ b. refl)
   plan_fits P M t words key (call.GetFileInfo c) sound fit = nothing M NoFile _ (version_at M c.bucket c.file) (λ v. refl)
-  plan_fits P M t words key (call.HideFile c) sound fit = there M NoBucket _ (bucket_at M c.bucket) (λ b is none. (next_may M sound b.num (ap is_some (bucket_again M c.bucket b is)), tt))
-  plan_fits P M t words key (call.DeleteFileVersion c) sound fit = there M NoFile _ (version_at M c.bucket c.file) (λ v is none. (it_stands M c.bucket c.file v (λ w. true) is refl, tt))
+  plan_fits P M t words key (call.HideFile c) sound fit = there M NoBucket _ (bucket_at M c.bucket) (λ b is none. (next_may M sound b.num (ap is_some (bucket_again M c.bucket b is)), tt, refl))
+  plan_fits P M t words key (call.DeleteFileVersion c) sound fit = there M NoFile _ (version_at M c.bucket c.file) (λ v is none. (it_stands M c.bucket c.file v (λ w. true) is refl, tt, refl))
   plan_fits P M t words key (call.GetDownloadAuthorization c) sound fit = nothing M NoBucket _ (bucket_at M c.bucket) (λ b. refl)
   plan_fits P M t words key (call.DownloadFileById c) sound fit = nothing M NoFile (content P.size M key c.range) (version_at M c.bucket c.file) (λ v. refl)
   plan_fits P M t words key (call.DownloadFileByName c) sound fit = nothing M NoFile _ (bucket_named M c.bucket) (λ b. no_change (content P.size M key c.range) (newest M b.num c.name) (λ v. refl))
@@ -207,9 +209,9 @@ module _ {C : Type 0} where
       no_change p None each = refl
       no_change p (Some v) each = each v
   plan_fits P M t words key (call.UpdateFileRetention c) sound fit = there M NoFile _ (version_at M c.bucket c.file) (λ v is none.
-      (it_stands M c.bucket c.file v (λ w. is_upload w.action) is (not_not (is_upload v.action) (neither (is_other_name v c.name) (not (is_upload v.action)) none.0).1), tt))
+      (it_stands M c.bucket c.file v (λ w. is_upload w.action) is (not_not (is_upload v.action) (neither (is_other_name v c.name) (not (is_upload v.action)) none.0).1), tt, refl))
   plan_fits P M t words key (call.UpdateFileLegalHold c) sound fit = there M NoFile _ (version_at M c.bucket c.file) (λ v is none.
-      (it_stands M c.bucket c.file v (λ w. is_upload w.action) is (not_not (is_upload v.action) (neither (is_other_name v c.name) (not (is_upload v.action)) none.0).1), tt))
+      (it_stands M c.bucket c.file v (λ w. is_upload w.action) is (not_not (is_upload v.action) (neither (is_other_name v c.name) (not (is_upload v.action)) none.0).1), tt, refl))
   plan_fits P M t words key (call.CopyFile c) sound fit =
       file_copy_fits P M key t c (unwrap_or c.bucket c.source.bucket) (bucket_at M (unwrap_or c.bucket c.source.bucket)) (version_at M c.source.bucket c.source.num) sound refl
   plan_fits P M t words key (call.CopyPart c) sound fit = part_copy_fits P M t c c.bucket c.file (version_at M c.source.bucket c.source.num) (version_at M c.bucket c.file) refl
@@ -218,7 +220,7 @@ module _ {C : Type 0} where
   -- ---- ends of uploads
 
   pub end_fits : (size : C → ℕ) (M : State C) (t : ℕ) (key : Option Key) (body : Body C) (u : UploadCall) → IsSound M → Fits M (end_plan size M t key body u)
-  end_fits size M t key body (upload.File u) sound = there M NoBucket (file_end size M t key body u) (bucket_at M u.bucket) (λ b is none. (next_may M sound u.bucket (ap is_some is), upload_mark u.digest))
+  end_fits size M t key body (upload.File u) sound = there M NoBucket (file_end size M t key body u) (bucket_at M u.bucket) (λ b is none. (next_may M sound u.bucket (ap is_some is), upload_mark u.digest, refl))
   end_fits size M t key body (upload.Part u) sound = there M NoFile (part_end size t body u) (version_at M u.bucket u.file) (λ v is none.
-      (it_stands M u.bucket u.file v (λ w. is_start w.action) is (not_not (is_start v.action) none.0), tt))
+      (it_stands M u.bucket u.file v (λ w. is_start w.action) is (not_not (is_start v.action) none.0), tt, refl))
   end_fits size M t key body (upload.Bad c) sound = λ none. tt

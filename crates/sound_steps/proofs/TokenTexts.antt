@@ -15,7 +15,7 @@ same_fronts (a ∷ xs) (b ∷ ys) x y long same =
     (ap (λ c. c ∷ xs) head ∙ ap (λ zs. b ∷ zs) rest.0, rest.1)
 
 -- the front, the boot number, a mark, the serial, and the rest
-flat : (front boot serial first second : List ℕ) → front ++ boot ++ 95 ∷ serial ++ 95 ∷ first ++ 95 ∷ second ≡ front ++ (boot ++ (95 ∷ (serial ++ (95 ∷ (first ++ (95 ∷ second))))))
+pub flat : (front boot serial first second : List ℕ) → front ++ boot ++ 95 ∷ serial ++ 95 ∷ first ++ 95 ∷ second ≡ front ++ (boot ++ (95 ∷ (serial ++ (95 ∷ (first ++ (95 ∷ second))))))
 flat front boot serial first second = simp append_assoc refl
 
 pub tells_number : (boot serial first second boot' serial' first' second' : ℕ) → boot < 2 ^ 32 → boot' < 2 ^ 32 → serial < 2 ^ 64 → serial' < 2 ^ 64

@@ -1,11 +1,11 @@
 -- What is asked of steps, and what an accepted call writes.
-use Rattle.std.specs.Prelude.{◌≡◌, ⊤, true, [], Option, Some, None, unwrap_or}
+use Rattle.std.specs.Prelude.{◌≡◌, ⊤, true, false, [], Option, Some, None, unwrap_or}
 use Rattle.b2_types.specs.declared.call.Call.{Call}
 use Rattle.b2_types.specs.declared.call.Call.TheVariants as call
 use Rattle.b2_types.specs.declared.record.ChangeOf.{ChangeOf}
 use Rattle.b2_model.specs.State.{State}
 use Rattle.b2_types.specs.LifecycleRules.{are_rules}
-use Rattle.b2_model.specs.Stored.{applies_change}
+use Rattle.b2_model.specs.Stored.{applies_change, is_snap_state}
 use Rattle.b2_model.specs.Run.{Step, asks}
 use Rattle.sound_states.specs.Sound.{IsFitChange}
 
@@ -21,7 +21,7 @@ IsFitStep other = ⊤
 
 -- ---- what an accepted call writes
 
--- the change applies to the state, and is such as a record may tell
+-- the change applies to the state, is such as a record may tell, and is not the numbers of a snapshot
 abbrev pub Applies : {C : Type 0} → State C → Option (ChangeOf C) → Type 0
 Applies M None = ⊤
-Applies M (Some ch) = (applies_change M ch ≡ true) × IsFitChange ch
+Applies M (Some ch) = (applies_change M ch ≡ true) × IsFitChange ch × (is_snap_state ch ≡ false)

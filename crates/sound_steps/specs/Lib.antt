@@ -1,3 +1,1 @@
 pub mod FitSteps
-pub mod Numbers
-pub mod Tokens

@@ -1,21 +1,19 @@
-//! Each step keeps a state sound, and what follows from it of numbers and tokens.
+//! Each step keeps a state sound.
 #![tactic(auto)]
 
-ghost use Rattle.std.specs.Prelude.{◌≡◌, ◌≢◌, ℕ, ◌<◌, ◌^◌, List, ◌∷◌, ◌++◌, Option, Some, None, All};
+ghost use Rattle.std.specs.Prelude.{◌≡◌, ℕ, ◌<◌, ◌^◌, List, Option, Some, None, All};
 ghost use Rattle.b2_types.specs.declared.key.Flight.{Flight as TheFlight};
-ghost use Rattle.b2_types.specs.declared.key.Grant.{Grant as TheGrant};
 ghost use Rattle.b2_types.specs.declared.call.Call.{Call as TheCall};
 ghost use Rattle.b2_model.specs.Body.{Body};
 ghost use Rattle.b2_model.specs.Checks.{first_fault};
 ghost use Rattle.b2_model.specs.State.{State, Pieces};
+ghost use Rattle.b2_model.specs.LiveGrant.{token_text};
 ghost use Rattle.b2_model.specs.Policy.{caller_of};
 ghost use Rattle.b2_model.specs.Ask.{plan_of, refusals_of};
 ghost use Rattle.b2_model.specs.UploadSteps.{end_plan, without_flight};
 ghost use Rattle.b2_model.specs.Run.{Step, Progress, step, run};
 ghost use Rattle.machine_laws.specs.Rules.{end_refusals};
-ghost use Rattle.sound_states.specs.Sound.{IsSound};
-ghost use Rattle.sound_steps.specs.Numbers.{NeverAgain};
-ghost use Rattle.sound_steps.specs.Tokens.{token_given};
+ghost use Rattle.sound_states.specs.Sound.{IsBefore, IsSound};
 ghost use Rattle.sound_steps.specs.FitSteps.{IsFitCall, IsFitStep, Applies};
 
 /// The record that an accepted call writes applies, and that of an upload which ends well.
@@ -41,21 +39,11 @@ pub fn steps_keep_sound<C>()
         → IsSound M → All IsFitStep steps → IsSound (run K M words steps).state }
 {}
 
-/// No number of a bucket, a version or a key that was given is given again in a run: what is new
-/// has the next number, and the next number never falls.
-#[tactic(auto)]
-pub fn numbers_are_given_once<C>()
-    ensures { (K : Pieces C) (M : State C) (words : List ℕ) (steps : List (Step C))
-        → NeverAgain M (run K M words steps).state }
-{}
-
-/// The texts of the tokens that a run gives differ, restarts included, as long as the count of
-/// openings fits its eight digits: of a later token the boot number or the serial is greater.
-#[tactic(auto)]
-pub fn tokens_differ<C>()
-    ensures { (K : Pieces C) (M : State C) (words : List ℕ) (earlier later : List (Step C))
-        (s u : Step C) (g h : TheGrant)
-        → M.serial < 2 ^ 64 → (run K M words (earlier ++ s ∷ later)).state.boot < 2 ^ 32
-        → token_given K (run K M words earlier) s ≡ Some g
-        → token_given K (run K M words (earlier ++ s ∷ later)) u ≡ Some h → g.text ≢ h.text }
+/// Of one opening, the text of a token with a lower serial stands before that of one with a
+/// greater: tokens in the order in which they were given stand by their texts.
+#[tactic(auto, using(crate::proofs::TokenOrder::lower_text))]
+pub fn tokens_have_their_order()
+    ensures { (boot earlier later first second third fourth : ℕ)
+        → earlier < later → later < 2 ^ 64
+        → IsBefore (token_text boot earlier first second) (token_text boot later third fourth) }
 {}

@@ -41,6 +41,14 @@ impl<V: Drop> Index<V> {
         }
     }
 
+    /// What holds of the rows of every index.
+    pub fn in_order(&self)
+        ensures ascending { AreAscending self.now }
+        ensures in_range { AreInRange self.now }
+    {
+        let _ = &self.rows;
+    }
+
     /// Puts the value at a spot where nothing stands. A row that finds no memory comes back.
     pub fn insert(&mut self, s: Spot, v: V) -> Result<(), (Spot, V, Memory)>
         requires free { value_at s self.old ≡ None }

@@ -1,6 +1,7 @@
-use Rattle.std.proofs.Common.{◌≡◌, ◌-◌, ◌+◌, ◌++◌, ap, sym, ◌∙◌, arith}
+use Rattle.std.proofs.Common.{All, length, subst, ◌≡◌, ◌-◌, ◌+◌, ◌++◌, ap, sym, ◌∙◌, arith}
 use Rattle.disk_model.specs.Changes.{done_by, images_of, three_images}
-use Rattle.disk_model.proofs.ThreeImages.{three_may_be, images_next}
+use Rattle.disk_model.specs.Past.{MightHaveBeen}
+use Rattle.disk_model.proofs.ThreeImages.{three_may_be, images_next, all_left}
 use Rattle.disk_model.proofs.memory.MemDisk.images.Goals as goal
 
 pub returns-clause-left : goal.returns-clause-left
@@ -13,6 +14,13 @@ pub returns-clause-all : goal.returns-clause-all
 returns-clause-all c =
     let same : c.loop-call.call - c.args.since ≡ c.args.self.now.calls.made - c.args.since = omega (arith, c.loop-call.invariant.no_more) in
     c.loop-call.invariant.so_far ∙ ap (images_of c.args.self.now.done.items c.args.since) same
+
+pub returns-clause-since : goal.returns-clause-since
+returns-clause-since c =
+    let done = c.args.self.now.done.items in
+    let same : c.loop-call.call - c.args.since ≡ c.args.self.now.calls.made - c.args.since = omega (arith, c.loop-call.invariant.no_more) in
+    let all = c.loop-call.invariant.so_far ∙ ap (images_of done c.args.since) same in
+    subst (λ l. All (MightHaveBeen done (length (done_by c.args.since done))) l) (sym all) (all_left done c.args.since (c.args.self.now.calls.made - c.args.since))
 
 pub loop-call-preserved : goal.loop-call-preserved
 loop-call-preserved c = record {

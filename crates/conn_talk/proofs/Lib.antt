@@ -1,0 +1,5 @@
+pub mod Came
+pub mod Cuts
+pub mod Once
+pub mod Stays
+pub mod Turns

@@ -1,0 +1,4 @@
+pub mod Acts
+pub mod Asked
+pub mod Pieces
+pub mod Talk

@@ -1,0 +1,4 @@
+pub mod Rules
+pub mod Plans
+pub mod Names
+pub mod Buckets

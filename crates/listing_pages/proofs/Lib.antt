@@ -1,0 +1,15 @@
+pub mod Currents
+pub mod Gather
+pub mod InFolders
+pub mod Late
+pub mod Left
+pub mod Machine
+pub mod NameTurns
+pub mod Names
+pub mod Numbered
+pub mod Paged
+pub mod Shown
+pub mod Sought
+pub mod Starts
+pub mod Texts
+pub mod Turns

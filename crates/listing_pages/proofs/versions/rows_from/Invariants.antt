@@ -1,0 +1,19 @@
+use Rattle.std.proofs.Common.{◌≡◌, ◌≤◌, ◌+◌, IfOk, length, map, take, ℕ, ◌-◌, ◌*◌, ◌<◌, true}
+use Rattle.b2_model.specs.Pages.{listing_page, row_of}
+use Rattle.index_rows.specs.OwnRows.{AreOwn, of_bucket}
+use Rattle.listing_pages.specs.PageOf.{IsDelimiter, asked_rows, folder_of_name, listing_of, page_row, shown_page}
+use Rattle.listing_pages.specs.Places.{after_row, after_version}
+use Rattle.listing_pages.proofs.Gather.{Stands}
+use Rattle.listing_pages.proofs.versions.rows_from.Given as goal
+
+abbrev pub invariant-rows : goal.invariant-rows
+invariant-rows g l =
+    let R = of_bucket l.ask.bucket l.index in
+    record {
+      stands : Stands (λ v. true) R l.ask (map page_row (asked_rows (listing_of l.ask) R)) l.rows.items l.place;
+      steps : l.steps ≡ l.fn.steps + length l.rows.items;
+      few : length l.rows.items ≤ l.size + 1;
+    }
+
+abbrev pub decreases-rows : goal.decreases-rows
+decreases-rows g l = (l.size + 1) - length l.rows.items

@@ -1,0 +1,4 @@
+pub mod Decided
+pub mod Refusals
+pub mod Terms
+pub mod Bodies

@@ -1,0 +1,2 @@
+pub mod StepRecords
+pub mod Fronts
