@@ -1,31 +1,29 @@
 -- Which version of a name counts, found from a place on.
-use Rattle.std.proofs.Common.{◌≡◌, ℕ, zero, suc, ◌+◌, ◌<◌, ◌≤◌, ◌==◌, ◌&&◌, nat_lt, Bool, true, false, not, cond, List, [], ◌∷◌, ◌++◌, Option, None, Some, length, filter, find, map, subst, sym, ap, ◌∙◌, ⊎_elim, refl, arith, nat_cmp, is_lt, Less, Equal, Greater}
+use Rattle.std.proofs.Common.{◌≡◌, ℕ, zero, suc, ◌≤◌, ◌==◌, ◌&&◌, nat_lt, Bool, true, false, not, List, [], ◌∷◌, ◌++◌, Option, None, Some, find, subst, sym, ap, ◌∙◌, ⊎_elim, refl, arith, Less, Equal, Greater}
 use Rattle.std.specs.Prelude.{bytes_eq}
 use Rattle.std.specs.declared.cmp.Ordering.{Ordering}
 use Rattle.std.specs.List.{AllByRecursion}
-use Rattle.std.specs.Ordering.{is_gt, match_ordering, ordering_reverse}
+use Rattle.std.specs.Ordering.{is_gt}
 use Rattle.std.specs.Cmp.{tied_itself}
-use Rattle.std.specs.Cmp.Lexicographic.{slice_cmp, nat_list_cmp_total}
+use Rattle.std.specs.Cmp.Lexicographic.{nat_list_cmp_total}
 use Rattle.std.proofs.lemmas.Bool.{and_left, and_parts, and_right, cases_Bool, eqb-true, false≢true}
 use Rattle.std.proofs.lemmas.Bool.Decides.{nat_tests}
 use Rattle.std.proofs.lemmas.Map.Lookups.{exact_bytes}
 use Rattle.b2_base.specs.declared.numbers.TheConstants.{LAST_VERSION}
-use Rattle.b2_types.specs.declared.kinds.Action.{Action}
-use Rattle.b2_types.specs.declared.kinds.Action.TheVariants as action
 use Rattle.b2_types.specs.declared.version.VersionOf.{VersionOf}
 use Rattle.b2_model.specs.Checks.{some_and}
 use Rattle.b2_model.specs.Current.{current_in}
-use Rattle.b2_model.specs.Kinds.{is_hide, is_start, is_upload}
+use Rattle.b2_model.specs.Kinds.{is_start, is_upload}
 use Rattle.b2_model.specs.Pages.{is_current}
 use Rattle.b2_model.specs.Rows.{is_before}
 use Rattle.version_index.specs.declared.spot.Spot.{Spot}
-use Rattle.listing_pages.specs.NameRows.{IsStartBefore, StartsBefore, is_late, is_visible}
-use Rattle.listing_pages.specs.Places.{after_name, after_version, at_or_after, first_of_name}
+use Rattle.listing_pages.specs.NameRows.{IsStartBefore, StartsBefore, is_visible}
+use Rattle.listing_pages.specs.Places.{after_version, at_or_after, first_of_name}
 use Rattle.listing_pages.proofs.Gather.{found_upto}
 use Rattle.listing_pages.proofs.InFolders.{bytes_are, bytes_same}
-use Rattle.listing_pages.proofs.Names.{at_first, at_name, at_version, cmp}
-use Rattle.listing_pages.proofs.Shown.{InOrder, all_both, all_from, filter_same, filter_twice, found_passes}
-use Rattle.listing_pages.proofs.Starts.{reversed, less_upto}
+use Rattle.listing_pages.proofs.Names.{at_first, at_version, cmp}
+use Rattle.listing_pages.proofs.Shown.{InOrder, all_both, all_from, found_passes}
+use Rattle.listing_pages.proofs.Starts.{reversed}
 use Rattle.listing_pages.proofs.Turns.{AreLow}
 
 -- the first of a test is the first of a narrower one, where nothing before it passes that
@@ -36,7 +34,7 @@ first_of_both p q (x ∷ xs) r found all is = ⊎_elim
     (λ (before : p x ≡ false). rw (all.0 before) (first_of_both p q xs r (rw before at found) all.1 is))
     (cases_Bool (p x))
 
-same_number : (n : ℕ) → (n == n) ≡ true
+pub same_number : (n : ℕ) → (n == n) ≡ true
 same_number n = grind (arith, nat_tests)
 
 module _ {C : Type 0} where
@@ -48,7 +46,7 @@ module _ {C : Type 0} where
   abbrev pub counts_for : List ℕ → VersionOf C → Bool
   counts_for name v = bytes_eq v.name name && not (is_start v.action)
 
-  none_before : (s : Spot) (r : VersionOf C) → at_or_after s r ≡ true → (t : VersionOf C) → IsStartBefore s t → at_or_after s t ≡ false → counts_for r.name t ≡ false
+  pub none_before : (s : Spot) (r : VersionOf C) → at_or_after s r ≡ true → (t : VersionOf C) → IsStartBefore s t → at_or_after s t ≡ false → counts_for r.name t ≡ false
   none_before s r here t starts before = ⊎_elim
       (λ (same : bytes_eq t.name r.name ≡ true).
       let one = bytes_are t.name r.name same in

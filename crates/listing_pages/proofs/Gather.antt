@@ -1,29 +1,27 @@
 -- The rows of a page, one turn after the other.
-use Rattle.std.proofs.Common.{◌≡◌, ℕ, zero, suc, ◌+◌, ◌<◌, ◌≤◌, ◌&&◌, Bool, true, false, not, cond, List, [], ◌∷◌, ◌++◌, Option, None, Some, length, take, filter, find, map, subst, sym, ap, ◌∙◌, ⊎_elim, refl, arith, nat_cmp, is_lt, Less, Equal, Greater, append_assoc, append-nil}
+use Rattle.std.proofs.Common.{◌≡◌, ℕ, zero, suc, ◌+◌, ◌<◌, ◌≤◌, Bool, true, false, cond, List, [], ◌∷◌, ◌++◌, Option, None, Some, length, take, filter, find, map, subst, sym, ap, ◌∙◌, ⊎_elim, refl, arith, is_lt, Less, Equal, Greater, append_assoc, append-nil}
 use Rattle.std.specs.Prelude.{bytes_eq}
 use Rattle.std.specs.declared.cmp.Ordering.{Ordering}
 use Rattle.std.specs.List.{AllByRecursion}
 use Rattle.std.specs.Ordering.{is_gt}
 use Rattle.std.specs.Cmp.{tied_itself}
-use Rattle.std.specs.Cmp.Lexicographic.{slice_cmp, nat_list_cmp_total}
+use Rattle.std.specs.Cmp.Lexicographic.{nat_list_cmp_total}
 use Rattle.std.proofs.lemmas.Bool.{cases_Bool, false≢true}
 use Rattle.std.proofs.lemmas.List.{length-append, take_all}
 use Rattle.std.proofs.Math.Seq.{take-append_seam}
-use Rattle.b2_base.specs.declared.numbers.TheConstants.{LAST_VERSION}
 use Rattle.b2_types.specs.declared.version.VersionOf.{VersionOf}
 use Rattle.b2_model.specs.Pages.{Row, file, folder, or_file, row_of}
-use Rattle.b2_model.specs.Rows.{is_before}
 use Rattle.name_rules.specs.Folder.{begins_with}
 use Rattle.version_index.specs.declared.spot.Spot.{Spot}
 use Rattle.listing_pages.specs.declared.ask.Ask.{Ask}
 use Rattle.listing_pages.specs.declared.page.PageRow.{PageRow}
 use Rattle.listing_pages.specs.PageOf.{IsDelimiter, asked_rows, folder_of_name, listing_of, page_row}
 use Rattle.listing_pages.specs.Places.{after_folder, after_name, after_row, after_version, at_number, at_or_after, begin_at, first_of_name, in_folder, raised}
-use Rattle.listing_pages.proofs.InFolders.{are_folders, begins_more, bytes_are}
+use Rattle.listing_pages.proofs.InFolders.{are_folders, begins_more}
 use Rattle.listing_pages.proofs.Left.{after_its_version, file_turn, folder_turn, no_more, none_left, whole}
 use Rattle.listing_pages.proofs.Names.{begins_upto, cmp, raised_less}
 use Rattle.listing_pages.proofs.Shown.{InOrder, filter_all, found_passes, row_is, shown}
-use Rattle.listing_pages.proofs.Starts.{begins_itself, not_above, reversed, upto_less, upto_upto}
+use Rattle.listing_pages.proofs.Starts.{not_above, reversed, upto_less, upto_upto}
 use Rattle.listing_pages.proofs.Turns.{AreLow}
 
 -- no name that begins with the prefix is left behind for its bytes

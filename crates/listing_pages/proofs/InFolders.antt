@@ -1,7 +1,7 @@
 -- Folders and the names in them.
-use Rattle.std.proofs.Common.{◌≡◌, ℕ, ◌+◌, ◌-◌, ◌<◌, ◌≤◌, ◌⊎◌, Bool, true, false, not, List, [], ◌∷◌, ◌++◌, Option, None, Some, length, take, drop, subst, sym, ap, ◌∙◌, refl, arith}
+use Rattle.std.proofs.Common.{◌≡◌, ℕ, ◌+◌, ◌<◌, ◌≤◌, true, List, ◌++◌, Option, None, Some, length, take, drop, sym, ap, ◌∙◌, refl, arith}
 use Rattle.std.specs.Prelude.{bytes_eq, option_map}
-use Rattle.std.proofs.lemmas.List.{drop-take, take-append-le, length-drop, length-take, take-take, take_all}
+use Rattle.std.proofs.lemmas.List.{drop-take, take-append-le, length-drop, length-take, take-take}
 use Rattle.std.proofs.lemmas.Slice.Eq.{bytes_eq-Decides}
 use Rattle.name_rules.specs.Folder.{IsFolderEnd, StandsAt, begins_with, folder_end, folder_in}
 use Rattle.name_rules.proofs.Folders.{ends_there}

@@ -1,30 +1,29 @@
 -- The visible versions that a listing of names shows, from its start on.
-use Rattle.std.proofs.Common.{◌≡◌, ℕ, zero, suc, ◌+◌, ◌<◌, ◌≤◌, ◌&&◌, nat_lt, Bool, true, false, not, cond, List, [], ◌∷◌, ◌++◌, Option, None, Some, length, filter, find, map, subst, sym, ap, ◌∙◌, ⊎_elim, refl, arith, nat_cmp, is_lt, Less, Equal, Greater}
+use Rattle.std.proofs.Common.{◌≡◌, ℕ, ◌<◌, ◌≤◌, ◌&&◌, nat_lt, Bool, true, false, not, List, [], ◌∷◌, Option, None, Some, filter, subst, sym, ap, ◌∙◌, ⊎_elim, refl, arith, Less, Equal, Greater}
 use Rattle.std.specs.Prelude.{bytes_eq}
 use Rattle.std.specs.declared.cmp.Ordering.{Ordering}
 use Rattle.std.specs.List.{AllByRecursion}
-use Rattle.std.specs.Ordering.{is_gt, match_ordering, ordering_reverse}
+use Rattle.std.specs.Ordering.{is_gt}
 use Rattle.std.specs.Cmp.{tied_itself}
-use Rattle.std.specs.Cmp.Lexicographic.{slice_cmp, nat_list_cmp_total}
+use Rattle.std.specs.Cmp.Lexicographic.{nat_list_cmp_total}
 use Rattle.std.proofs.lemmas.Bool.{and_parts, and_right, cases_Bool, false≢true}
 use Rattle.std.proofs.lemmas.Bool.Decides.{nat_tests}
 use Rattle.std.proofs.lemmas.Map.Lookups.{exact_bytes}
 use Rattle.b2_base.specs.declared.numbers.TheConstants.{LAST_VERSION}
 use Rattle.b2_types.specs.declared.version.VersionOf.{VersionOf}
 use Rattle.b2_model.specs.Checks.{some_and}
-use Rattle.b2_model.specs.Pages.{Row, file, folder, is_from, or_file, row_of, visible_versions, with_folders, with_prefix}
+use Rattle.b2_model.specs.Pages.{file, folder, is_from, or_file, row_of, visible_versions, with_folders, with_prefix}
 use Rattle.b2_model.specs.Rows.{is_before}
 use Rattle.name_rules.specs.Folder.{begins_with}
-use Rattle.version_index.specs.declared.spot.Spot.{Spot}
 use Rattle.listing_pages.specs.declared.ask.Ask.{Ask}
 use Rattle.listing_pages.specs.NameRows.{is_late, is_visible}
-use Rattle.listing_pages.specs.PageOf.{IsDelimiter, asked_rows, folder_of_name, listing_of, page_row}
+use Rattle.listing_pages.specs.PageOf.{IsDelimiter, folder_of_name}
 use Rattle.listing_pages.specs.Places.{at_or_after, begin_at}
 use Rattle.listing_pages.proofs.Currents.{one_visible}
 use Rattle.listing_pages.proofs.InFolders.{are_folders, bytes_are, bytes_same}
 use Rattle.listing_pages.proofs.Left.{exchanged}
 use Rattle.listing_pages.proofs.Names.{begins_upto, cmp}
-use Rattle.listing_pages.proofs.Shown.{InOrder, PassFrom, all_both, all_from, all_kept, filter_same, filter_twice, left_out, order_kept, passes, row_is, shown}
+use Rattle.listing_pages.proofs.Shown.{InOrder, PassFrom, all_both, all_kept, filter_same, filter_twice, left_out, order_kept, passes, row_is, shown}
 use Rattle.listing_pages.proofs.Starts.{from_folder, kept_at, reversed, upto_upto}
 use Rattle.listing_pages.proofs.Turns.{AreLow, at_later, names_upto}
 

@@ -1,24 +1,21 @@
 -- What is left of a listing at a place, and what each turn takes of it.
-use Rattle.std.proofs.Common.{◌≡◌, ℕ, zero, suc, ◌+◌, ◌<◌, ◌≤◌, ◌&&◌, nat_lt, Bool, true, false, not, cond, List, [], ◌∷◌, ◌++◌, Option, None, Some, length, filter, find, map, subst, sym, ap, ◌∙◌, ⊎_elim, refl, arith, nat_cmp, is_lt, Less, Equal, Greater}
-use Rattle.std.specs.declared.cmp.Ordering.{Ordering}
+use Rattle.std.proofs.Common.{◌≡◌, ℕ, ◌<◌, ◌≤◌, ◌&&◌, Bool, true, false, cond, List, [], ◌∷◌, Option, None, Some, length, filter, find, subst, sym, ap, ◌∙◌, ⊎_elim, refl, is_lt}
 use Rattle.std.specs.List.{AllByRecursion}
-use Rattle.std.specs.Ordering.{is_gt, match_ordering, ordering_reverse}
-use Rattle.std.specs.Cmp.{tied_itself}
-use Rattle.std.specs.Cmp.Lexicographic.{slice_cmp, nat_list_cmp_total}
-use Rattle.std.proofs.lemmas.Bool.{and_parts, and_right, cases_Bool, false≢true}
+use Rattle.std.specs.Ordering.{is_gt}
+use Rattle.std.proofs.lemmas.Bool.{cases_Bool, false≢true}
 use Rattle.b2_base.specs.declared.numbers.TheConstants.{LAST_VERSION}
 use Rattle.b2_types.specs.declared.version.VersionOf.{VersionOf}
-use Rattle.b2_model.specs.Pages.{Row, before_others, file, folder, is_from, or_file, row_of, with_folders, with_prefix}
+use Rattle.b2_model.specs.Pages.{before_others, file, folder, is_from, or_file, row_of, with_folders, with_prefix}
 use Rattle.b2_model.specs.Rows.{is_before}
 use Rattle.name_rules.specs.Folder.{begins_with}
 use Rattle.version_index.specs.declared.spot.Spot.{Spot}
 use Rattle.listing_pages.specs.Orders.{is_past}
 use Rattle.listing_pages.specs.PageOf.{IsDelimiter, folder_of_name}
-use Rattle.listing_pages.specs.Places.{after_folder, after_name, after_row, after_version, at_or_after, first_of_name, in_folder, raised}
-use Rattle.listing_pages.proofs.InFolders.{are_folders, begins_more}
-use Rattle.listing_pages.proofs.Names.{at_folder, at_name, at_version, begins_between, begins_upto, cmp, raised_less}
-use Rattle.listing_pages.proofs.Shown.{InOrder, PassFrom, all_both, all_from, all_kept, file_first, filter_all, filter_none, filter_same, filter_twice, left_out, none_found, order_kept, passes, row_is, shown}
-use Rattle.listing_pages.proofs.Starts.{begins_itself, kept_at, less_upto, not_above, reversed, upto_less, upto_upto}
+use Rattle.listing_pages.specs.Places.{after_folder, after_version, at_or_after, first_of_name, in_folder}
+use Rattle.listing_pages.proofs.InFolders.{are_folders}
+use Rattle.listing_pages.proofs.Names.{at_folder, at_version, begins_between, cmp}
+use Rattle.listing_pages.proofs.Shown.{InOrder, PassFrom, all_both, all_from, all_kept, file_first, filter_none, filter_same, filter_twice, left_out, none_found, order_kept, passes, row_is, shown}
+use Rattle.listing_pages.proofs.Starts.{begins_itself, kept_at}
 use Rattle.listing_pages.proofs.Turns.{AreLow, InOrPast, at_later, from_place, implied, in_or_past, names_upto, once_out, one_folder, past_after}
 
 -- two filters in either order

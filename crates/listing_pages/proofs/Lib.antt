@@ -8,6 +8,7 @@ pub mod NameTurns
 pub mod Names
 pub mod Numbered
 pub mod Paged
+pub mod Passed
 pub mod Shown
 pub mod Sought
 pub mod Starts

@@ -1,7 +1,6 @@
 -- The page of unfinished files is the machine's.
 use Rattle.std.proofs.Common.{◌≡◌, ℕ, ◌==◌, ◌&&◌, nat_le, Bool, true, false, List, [], ◌∷◌, Option, filter, map, sym, ap, ◌∙◌, ⊎_elim, refl}
 use Rattle.std.proofs.lemmas.Bool.{cases_Bool}
-use Rattle.b2_types.specs.declared.version.VersionOf.{VersionOf}
 use Rattle.b2_model.specs.Kinds.{is_start}
 use Rattle.b2_model.specs.Pages.{page_of, page_size, unfinished_page, with_prefix}
 use Rattle.b2_model.specs.State.{State}

@@ -1,11 +1,9 @@
 -- The rows of a page of names, one turn after the other.
-use Rattle.std.proofs.Common.{◌≡◌, ℕ, zero, suc, ◌+◌, ◌<◌, ◌≤◌, ◌&&◌, nat_lt, Bool, true, false, not, cond, List, [], ◌∷◌, ◌++◌, Option, None, Some, length, filter, find, map, subst, sym, ap, ◌∙◌, ⊎_elim, refl, arith, nat_cmp, is_lt, Less, Equal, Greater, append_assoc, append-nil}
+use Rattle.std.proofs.Common.{◌≡◌, ℕ, zero, suc, ◌+◌, ◌<◌, ◌≤◌, ◌&&◌, Bool, true, false, not, cond, List, [], ◌∷◌, ◌++◌, Option, None, Some, length, filter, find, map, subst, sym, ap, ◌∙◌, ⊎_elim, refl, arith, is_lt, Less, Equal, Greater, append_assoc, append-nil}
 use Rattle.std.specs.Option.{option_to_list}
 use Rattle.std.specs.Prelude.{bytes_eq}
 use Rattle.std.specs.declared.cmp.Ordering.{Ordering}
 use Rattle.std.specs.List.{AllByRecursion}
-use Rattle.std.specs.Ordering.{is_gt, match_ordering}
-use Rattle.std.specs.Cmp.Lexicographic.{slice_cmp, nat_list_cmp_total}
 use Rattle.std.proofs.lemmas.Bool.{and_right, cases_Bool, false≢true}
 use Rattle.std.proofs.lemmas.List.{length-append}
 use Rattle.std.proofs.lemmas.Map.Lookups.{exact_bytes}
@@ -21,7 +19,6 @@ use Rattle.name_rules.specs.Folder.{begins_with}
 use Rattle.version_index.specs.declared.spot.Spot.{Spot}
 use Rattle.listing_pages.specs.declared.ask.Ask.{Ask}
 use Rattle.listing_pages.specs.declared.page.PageRow.{PageRow}
-use Rattle.listing_pages.specs.declared.page.PageRow.TheVariants.{File, Folder}
 use Rattle.listing_pages.specs.NameRows.{StartsBefore, is_late, is_visible, next_by, row_by, upload_row}
 use Rattle.listing_pages.specs.PageOf.{IsDelimiter, asked_rows, folder_of_name, listing_of, page_row}
 use Rattle.listing_pages.specs.Places.{after_folder, after_name, after_row, after_version, at_or_after, begin_at, first_of_name, in_folder, raised}
@@ -29,12 +26,12 @@ use Rattle.listing_pages.proofs.Currents.{current_is, first_starts, older_hidden
 use Rattle.listing_pages.proofs.Gather.{IsFromPrefix, Stands, begin_bucket, begin_from, folder_from, name_from, still, version_from}
 use Rattle.listing_pages.proofs.InFolders.{are_folders}
 use Rattle.listing_pages.proofs.Late.{counts, late_row, whole_names}
-use Rattle.listing_pages.proofs.Left.{after, after_its_version, file_turn, folder_turn, left, pass_left}
+use Rattle.listing_pages.proofs.Left.{after_its_version, file_turn, folder_turn, pass_left}
 use Rattle.listing_pages.proofs.Names.{at_folder, at_name, at_version, begins_upto, cmp}
-use Rattle.listing_pages.proofs.Shown.{InOrder, all_both, all_from, filter_same, filter_twice, shown}
+use Rattle.listing_pages.proofs.Shown.{InOrder, all_from, filter_same, filter_twice, shown}
 use Rattle.listing_pages.proofs.Turns.{AreLow, before_by_name, from_place, past_after}
 
-fewer : {X : Type 0} (p q : X → Bool) (xs : List X) → AllByRecursion (λ x. p x ≡ true → q x ≡ true) xs → length (filter p xs) ≤ length (filter q xs)
+pub fewer : {X : Type 0} (p q : X → Bool) (xs : List X) → AllByRecursion (λ x. p x ≡ true → q x ≡ true) xs → length (filter p xs) ≤ length (filter q xs)
 fewer p q [] all = omega arith
 fewer p q (x ∷ xs) all = ⊎_elim
     (λ (is : p x ≡ true). rw (is, all.0 is) (let rest = fewer p q xs all.1 in omega arith))

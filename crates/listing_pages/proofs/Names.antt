@@ -1,10 +1,9 @@
 -- Names in the order of their bytes, and what begins them.
-use Rattle.std.proofs.Common.{◌≡◌, ℕ, zero, suc, ◌+◌, ◌-◌, ◌<◌, ◌≤◌, ◌⊎◌, ◌==◌, ◌&&◌, nat_lt, Bool, true, false, not, List, [], ◌∷◌, ◌++◌, Some, length, get_or, set, take, subst, sym, ap, ◌∙◌, inl, inr, ⊎_elim, refl, arith, nat_cmp, is_lt, Less, Equal, Greater}
-use Rattle.std.specs.Prelude.{bytes_eq}
+use Rattle.std.proofs.Common.{◌≡◌, ℕ, zero, suc, ◌+◌, ◌-◌, ◌<◌, ◌≤◌, ◌⊎◌, ◌==◌, ◌&&◌, nat_lt, true, false, not, List, [], ◌∷◌, ◌++◌, length, get_or, set, sym, ap, ◌∙◌, inl, inr, refl, arith, nat_cmp, is_lt, Less, Equal, Greater}
 use Rattle.std.specs.declared.cmp.Ordering.{Ordering}
-use Rattle.std.specs.Ordering.{is_gt, match_ordering, ordering_reverse, ordering_then}
+use Rattle.std.specs.Ordering.{is_gt, match_ordering, ordering_reverse}
 use Rattle.std.specs.Cmp.Lexicographic.{slice_cmp, nat_list_cmp_total}
-use Rattle.std.proofs.lemmas.Bool.{and_from, and_parts, and_right, cases_Bool, cases_lt, eqb-true, false≢true}
+use Rattle.std.proofs.lemmas.Bool.{and_from, and_parts, and_right, cases_lt, eqb-true, false≢true}
 use Rattle.std.proofs.lemmas.Bool.Decides.{nat_tests}
 use Rattle.std.proofs.lemmas.Cmp.{ranked}
 use Rattle.b2_base.specs.declared.numbers.TheConstants.{LAST_VERSION}
@@ -159,7 +158,7 @@ zero_first : (x : ℕ) (xs : List ℕ) → not (is_gt (cmp (0 ∷ []) (x ∷ xs)
 zero_first zero xs = ap not (none_above xs)
 zero_first (suc x) xs = rw (less_is 0 (suc x) (omega arith)) refl
 
-zero_after : (n t : List ℕ) → not (is_gt (cmp (n ++ 0 ∷ []) t)) ≡ is_lt (cmp n t)
+pub zero_after : (n t : List ℕ) → not (is_gt (cmp (n ++ 0 ∷ []) t)) ≡ is_lt (cmp n t)
 zero_after [] [] = refl
 zero_after [] (x ∷ xs) = zero_first x xs
 zero_after (b ∷ bs) [] = refl

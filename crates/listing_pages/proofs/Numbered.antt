@@ -1,25 +1,24 @@
 -- Starts of large files, by number.
-use Rattle.std.proofs.Common.{◌≡◌, ℕ, zero, suc, ◌+◌, ◌-◌, ◌<◌, ◌≤◌, ◌==◌, ◌&&◌, nat_lt, nat_le, Bool, true, false, not, cond, List, [], ◌∷◌, ◌++◌, Option, None, Some, length, take, filter, find, map, subst, sym, ap, ◌∙◌, ⊎_elim, refl, arith, nat_cmp, is_le, is_lt, Less, Equal, Greater, append_assoc, append-nil}
+use Rattle.std.proofs.Common.{◌≡◌, ℕ, zero, suc, ◌+◌, ◌-◌, ◌<◌, ◌≤◌, ◌==◌, ◌&&◌, nat_lt, nat_le, Bool, true, false, not, cond, List, [], ◌∷◌, ◌++◌, Option, None, Some, filter, find, map, subst, sym, ap, ◌∙◌, ⊎_elim, refl, arith, nat_cmp, is_le, Less, Equal, append_assoc, append-nil}
 use Rattle.std.specs.Option.{option_to_list}
 use Rattle.std.specs.Prelude.{option_map}
-use Rattle.std.specs.declared.cmp.Ordering.{Ordering}
 use Rattle.std.specs.List.{AllByRecursion}
 use Rattle.std.specs.Map.{keys_of}
 use Rattle.std.specs.Ordering.{ordering_then}
 use Rattle.std.specs.Cmp.{nat_cmp_total, tied_itself}
 use Rattle.std.specs.Cmp.Lexicographic.{slice_cmp}
-use Rattle.std.proofs.lemmas.Bool.{cases_Bool, eqb-true, false≢true}
+use Rattle.std.proofs.lemmas.Bool.{cases_Bool, eqb-true}
 use Rattle.std.proofs.lemmas.Bool.Decides.{nat_tests}
 use Rattle.std.proofs.lemmas.Map.Keys.{sorted_head, sorted_tail}
 use Rattle.b2_base.specs.declared.numbers.TheConstants.{LAST_VERSION}
 use Rattle.name_rules.specs.Folder.{begins_with}
 use Rattle.version_index.specs.declared.spot.Spot.{Spot}
-use Rattle.version_index.specs.Rows.{AreAscending, AreInRange, is_from, listing_cmp, row_from}
+use Rattle.version_index.specs.Rows.{AreAscending, AreInRange, listing_cmp, row_from}
 use Rattle.listing_pages.specs.declared.page.PageRow.{PageRow}
 use Rattle.listing_pages.specs.Places.{after_version}
 use Rattle.listing_pages.specs.Unfinished.{AreStarts, asked_starts, number_of, start_row, starts_in}
-use Rattle.listing_pages.proofs.Names.{less_from, more_from, same_from}
-use Rattle.listing_pages.proofs.Shown.{all_from, all_kept, filter_all, filter_none, filter_same, filter_twice, none_found}
+use Rattle.listing_pages.proofs.Names.{less_from}
+use Rattle.listing_pages.proofs.Shown.{all_from, filter_same, filter_twice, none_found}
 use Rattle.listing_pages.proofs.Sought.{lower_number}
 
 -- ---- numbers that go down

@@ -1,5 +1,5 @@
 -- The rows of a page and the one after them.
-use Rattle.std.proofs.Common.{◌≡◌, ℕ, zero, suc, ◌+◌, ◌<◌, ◌≤◌, List, [], ◌∷◌, Option, None, Some, length, take, map, subst, sym, ap, ◌∙◌, refl, arith, add-one}
+use Rattle.std.proofs.Common.{◌≡◌, ℕ, zero, suc, ◌+◌, ◌≤◌, List, [], ◌∷◌, Option, length, take, map, ap, ◌∙◌, refl, arith}
 use Rattle.std.specs.Prelude.{option_map, slice_get}
 use Rattle.std.proofs.lemmas.List.{length-take, take-map, take-take}
 use Rattle.std.proofs.lemmas.Option.{slice_get-map}

@@ -1,19 +1,16 @@
 -- Rows of pages, and folders that stand for several versions.
-use Rattle.std.proofs.Common.{◌≡◌, ℕ, ◌<◌, ◌≤◌, ◌&&◌, nat_lt, Bool, true, false, not, cond, List, [], ◌∷◌, Option, None, Some, length, filter, find, subst, sym, ap, ◌∙◌, ⊎_elim, refl, arith, nat_cmp, is_lt, Less, Equal, Greater}
+use Rattle.std.proofs.Common.{◌≡◌, ℕ, ◌&&◌, Bool, true, false, cond, List, [], ◌∷◌, Option, None, Some, filter, find, subst, sym, ap, ◌∙◌, ⊎_elim, refl, arith}
 use Rattle.std.specs.Prelude.{bytes_eq}
 use Rattle.std.specs.List.{AllByRecursion}
-use Rattle.std.specs.Ordering.{is_gt, match_ordering}
 use Rattle.std.specs.Cmp.{tied_itself}
-use Rattle.std.specs.Cmp.Lexicographic.{slice_cmp, nat_list_cmp_total}
-use Rattle.std.proofs.lemmas.Bool.{and_parts, cases_Bool, false≢true}
+use Rattle.std.specs.Cmp.Lexicographic.{nat_list_cmp_total}
+use Rattle.std.proofs.lemmas.Bool.{cases_Bool}
 use Rattle.std.proofs.lemmas.Bool.Decides.{nat_tests}
 use Rattle.b2_types.specs.declared.version.VersionOf.{VersionOf}
 use Rattle.b2_model.specs.Pages.{Row, before_others, file, folder, or_file, row_of, same_folder, with_folders, with_prefix}
 use Rattle.b2_model.specs.Rows.{is_before}
-use Rattle.name_rules.specs.Folder.{begins_with}
-use Rattle.listing_pages.specs.Orders.{is_past}
 use Rattle.listing_pages.specs.PageOf.{folder_of_name}
-use Rattle.listing_pages.proofs.InFolders.{AreFolders, bytes_are, bytes_same}
+use Rattle.listing_pages.proofs.InFolders.{bytes_are, bytes_same}
 
 -- ---- filters
 

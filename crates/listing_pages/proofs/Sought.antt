@@ -1,12 +1,11 @@
 -- What a seek finds, among the versions of a bucket.
-use Rattle.std.proofs.Common.{◌≡◌, ℕ, ◌≤◌, ◌==◌, ◌&&◌, nat_lt, Bool, true, false, not, cond, List, [], ◌∷◌, Option, None, Some, filter, find, map, subst, sym, ap, ◌∙◌, ⊎_elim, refl, arith, nat_cmp, is_le, is_lt, Less, Equal, Greater, inl, inr}
+use Rattle.std.proofs.Common.{◌≡◌, ℕ, ◌≤◌, ◌==◌, nat_lt, true, false, not, List, [], ◌∷◌, find, subst, sym, ap, ◌∙◌, ⊎_elim, refl, arith, nat_cmp, is_le, is_lt, Less, Equal, Greater, inl, inr}
 use Rattle.std.specs.Prelude.{option_map}
 use Rattle.std.specs.declared.cmp.Ordering.{Ordering}
-use Rattle.std.specs.List.{AllByRecursion, Contains}
+use Rattle.std.specs.List.{AllByRecursion}
 use Rattle.std.specs.Map.{keys_of}
-use Rattle.std.specs.Ordering.{match_ordering, ordering_reverse, ordering_then}
+use Rattle.std.specs.Ordering.{ordering_then}
 use Rattle.std.specs.Cmp.{nat_cmp_total, tied_itself}
-use Rattle.std.specs.Cmp.Lexicographic.{slice_cmp}
 use Rattle.std.proofs.lemmas.Bool.{cases_Bool, eqb-true}
 use Rattle.std.proofs.lemmas.Bool.Decides.{nat_tests}
 use Rattle.std.proofs.lemmas.Map.Keys.{sorted_head, sorted_tail}
@@ -14,7 +13,7 @@ use Rattle.b2_base.specs.declared.numbers.TheConstants.{LAST_VERSION}
 use Rattle.b2_types.specs.declared.version.VersionOf.{VersionOf}
 use Rattle.b2_model.specs.Rows.{is_before}
 use Rattle.version_index.specs.declared.spot.Spot.{Spot}
-use Rattle.version_index.specs.Rows.{AreAscending, AreInRange, is_from, listing_cmp, row_from}
+use Rattle.version_index.specs.Rows.{AreAscending, AreInRange, listing_cmp, row_from}
 use Rattle.version_index.specs.Rows.{placed}
 use Rattle.version_index.proofs.Members.{placed_members}
 use Rattle.index_rows.specs.OwnRows.{AreOwn, of_bucket, spot_of}

@@ -1,10 +1,10 @@
 -- Where a listing begins.
-use Rattle.std.proofs.Common.{◌≡◌, ℕ, ◌<◌, ◌≤◌, ◌⊎◌, ◌&&◌, nat_lt, Bool, true, false, not, cond, List, [], ◌∷◌, Option, None, Some, length, subst, sym, ap, ◌∙◌, ⊎_elim, refl, arith, nat_cmp, is_lt, Less, Equal, Greater}
+use Rattle.std.proofs.Common.{◌≡◌, ℕ, ◌<◌, ◌≤◌, ◌&&◌, nat_lt, true, false, not, cond, List, [], ◌∷◌, Option, None, Some, length, sym, ap, ◌∙◌, ⊎_elim, refl, arith, is_lt, Less, Equal, Greater}
 use Rattle.std.specs.Prelude.{bytes_eq}
 use Rattle.std.specs.declared.cmp.Ordering.{Ordering}
 use Rattle.std.specs.Ordering.{is_gt, match_ordering, ordering_reverse}
 use Rattle.std.specs.Cmp.{alike_right, tied_itself}
-use Rattle.std.specs.Cmp.Lexicographic.{slice_cmp, nat_list_cmp_total}
+use Rattle.std.specs.Cmp.Lexicographic.{nat_list_cmp_total}
 use Rattle.std.proofs.lemmas.Bool.{and_right, cases_Bool, false≢true}
 use Rattle.std.proofs.lemmas.Bool.Decides.{nat_tests}
 use Rattle.std.proofs.lemmas.Map.Lookups.{exact_bytes}
@@ -13,9 +13,8 @@ use Rattle.b2_types.specs.declared.version.VersionOf.{VersionOf}
 use Rattle.b2_model.specs.Checks.{some_and}
 use Rattle.b2_model.specs.Pages.{Row, file, folder, is_from, or_file, row_name}
 use Rattle.name_rules.specs.Folder.{begins_with, folder_in}
-use Rattle.version_index.specs.declared.spot.Spot.{Spot}
 use Rattle.listing_pages.specs.Orders.{is_past}
-use Rattle.listing_pages.specs.Places.{after_folder, at_number, at_or_after, first_of_name, in_folder}
+use Rattle.listing_pages.specs.Places.{at_number, at_or_after, first_of_name, in_folder}
 use Rattle.listing_pages.proofs.Names.{at_first, at_folder, begins_between, begins_from, begins_upto, cmp, turned}
 use Rattle.listing_pages.proofs.InFolders.{AreFolders, begins_folder, bytes_are, bytes_same, same_folder_too}
 

@@ -1,11 +1,12 @@
 //! Pages of names, each with its current version where it can be seen.
 
-ghost use Rattle.std.specs.Prelude.{◌≡◌, ◌≤◌, ◌+◌, IfOk, map, take};
+ghost use Rattle.std.specs.Prelude.{◌≡◌, ◌≤◌, ◌+◌, IfOk, length, map, slice_get, take};
 ghost use Rattle.b2_types.specs.declared.kinds.Action.TheVariants as action;
 ghost use Rattle.b2_model.specs.Pages.{listing_page, visible_versions};
 ghost use Rattle.index_rows.specs.OwnRows.{AreOwn, of_bucket};
 ghost use Rattle.listing_pages.specs.NameRows.{is_late, next_by, row_by};
 ghost use Rattle.listing_pages.specs.PageOf.{IsDelimiter, asked_rows, listing_of, page_row, shown_page};
+ghost use Rattle.listing_pages.specs.PassedOver.{passed_over};
 
 use crate::ask::{Ask, page_size};
 use crate::folders::folder_turn;
@@ -89,6 +90,8 @@ fn names_from<L: Ledger>(
     requires size { size ≤ 1000 }
     ensures rows { IfOk result (λ rows. rows.items ≡ take (size + 1) (map page_row
         (asked_rows (listing_of ask.now) (visible_versions (of_bucket ask.now.bucket index.now))))) }
+    ensures steps { IfOk result (λ rows. steps.new ≤ steps.old + length (take size rows.items) + 2
+        + length (passed_over ask.now (of_bucket ask.now.bucket index.now) (slice_get rows.items size))) }
 {
     index.in_order();
     let mut place = first_place(alloc, ask, None)?;
@@ -107,7 +110,7 @@ fn names_from<L: Ledger>(
     Ok(rows)
 }
 
-/// The page of names that is asked for.
+/// The page of names that is asked for, in at most two steps more than it has rows and passes over.
 pub fn names_page<L: Ledger>(
     alloc: Global,
     index: &Index<Version>,
@@ -118,6 +121,8 @@ pub fn names_page<L: Ledger>(
     requires delimiter { IsDelimiter ask.now.delimiter }
     ensures page { IfOk result (λ page. page ≡ shown_page
         (listing_page (listing_of ask.now) (visible_versions (of_bucket ask.now.bucket index.now)))) }
+    ensures steps { IfOk result (λ page. steps.new ≤ steps.old + length page.rows + 2
+        + length (passed_over ask.now (of_bucket ask.now.bucket index.now) page.next)) }
 {
     let size = page_size(ask.max);
     let rows = names_from(alloc, index, ask, size, steps)?;

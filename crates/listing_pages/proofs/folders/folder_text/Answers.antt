@@ -1,4 +1,4 @@
-use Rattle.std.proofs.Common.{sym, ◌∙◌, ap, arith, drop, length, length-take}
+use Rattle.std.proofs.Common.{sym, ◌∙◌, arith, length}
 use Rattle.listing_pages.proofs.Texts.{folder_cut}
 use Rattle.listing_pages.proofs.folders.folder_text.Goals as goal
 

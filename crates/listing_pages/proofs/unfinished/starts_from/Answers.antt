@@ -1,11 +1,10 @@
-use Rattle.std.proofs.Common.{◌≡◌, ◌≤◌, ◌+◌, ◌-◌, ◌++◌, arith, length, map, refl, subst, sym, ap, ◌∙◌, []}
-use Rattle.std.specs.Prelude.{option_map, unwrap_or}
-use Rattle.b2_base.specs.declared.numbers.TheConstants.{LAST_VERSION}
+use Rattle.std.proofs.Common.{◌+◌, arith, map, sym, ap, ◌∙◌}
+use Rattle.std.specs.Prelude.{option_map}
 use Rattle.version_index.specs.Rows.{row_from}
 use Rattle.listing_pages.specs.Unfinished.{asked_starts, start_row, starts_in}
 use Rattle.listing_pages.proofs.Gather.{all_taken, enough_taken}
 use Rattle.listing_pages.proofs.NameTurns.{few_more}
-use Rattle.listing_pages.proofs.Numbered.{found_below, none_more_starts, one_more_start, sought_below, starts_begin, starts_down, starts_left, starts_within}
+use Rattle.listing_pages.proofs.Numbered.{found_below, none_more_starts, one_more_start, sought_below, starts_begin, starts_down, starts_within}
 use Rattle.listing_pages.proofs.unfinished.starts_from.Goals as goal
 
 pub rows-init : goal.rows-init

@@ -1,4 +1,4 @@
-use Rattle.std.proofs.Common.{◌≡◌, ◌+◌, Some, map, ap, ◌∙◌}
+use Rattle.std.proofs.Common.{◌+◌, map, ap, ◌∙◌}
 use Rattle.std.specs.Prelude.{unwrap_or}
 use Rattle.b2_model.specs.Pages.{page_of}
 use Rattle.listing_pages.specs.Unfinished.{asked_starts, start_row, starts_in}

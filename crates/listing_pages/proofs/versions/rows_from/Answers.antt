@@ -1,7 +1,7 @@
-use Rattle.std.proofs.Common.{◌≡◌, ◌≤◌, ◌+◌, arith, length, refl, subst, sym, ap, ◌∙◌, true, false}
+use Rattle.std.proofs.Common.{◌+◌, arith, refl, sym, ap, ◌∙◌, true}
 use Rattle.std.specs.Prelude.{option_map}
 use Rattle.index_rows.specs.OwnRows.{of_bucket}
-use Rattle.listing_pages.proofs.Gather.{Stands, all_taken, counted, enough_taken, none_begin, none_more, turn_of, versions_begin}
+use Rattle.listing_pages.proofs.Gather.{all_taken, counted, enough_taken, none_begin, none_more, turn_of, versions_begin}
 use Rattle.listing_pages.proofs.Sought.{bucket_low, bucket_order, sought_in}
 use Rattle.listing_pages.proofs.versions.rows_from.Goals as goal
 

@@ -1,8 +1,6 @@
-use Rattle.std.proofs.Common.{◌≡◌, ◌≤◌, ◌+◌, IfOk, length, map, take, ℕ, ◌-◌, ◌*◌, ◌<◌, true}
-use Rattle.b2_model.specs.Pages.{listing_page, row_of}
-use Rattle.index_rows.specs.OwnRows.{AreOwn, of_bucket}
-use Rattle.listing_pages.specs.PageOf.{IsDelimiter, asked_rows, folder_of_name, listing_of, page_row, shown_page}
-use Rattle.listing_pages.specs.Places.{after_row, after_version}
+use Rattle.std.proofs.Common.{◌≡◌, ◌≤◌, ◌+◌, length, map, ◌-◌, true}
+use Rattle.index_rows.specs.OwnRows.{of_bucket}
+use Rattle.listing_pages.specs.PageOf.{asked_rows, listing_of, page_row}
 use Rattle.listing_pages.proofs.Gather.{Stands}
 use Rattle.listing_pages.proofs.versions.rows_from.Given as goal
 

@@ -1,4 +1,4 @@
-use Rattle.std.proofs.Common.{◌≡◌, ◌+◌, arith, sym, ap, ◌∙◌}
+use Rattle.std.proofs.Common.{◌+◌, arith, ap, ◌∙◌}
 use Rattle.b2_model.specs.Pages.{page_of}
 use Rattle.index_rows.specs.OwnRows.{of_bucket}
 use Rattle.listing_pages.specs.PageOf.{asked_rows, listing_of, shown_page}
