@@ -3,6 +3,7 @@ pub mod Gather
 pub mod InFolders
 pub mod Late
 pub mod Left
+pub mod Looked
 pub mod Machine
 pub mod NameTurns
 pub mod Names

@@ -50,7 +50,7 @@ found_has Q p (y ∷ ys) x all found = ⊎_elim
     (cases_Bool (p y))
 
 -- one more passes the wider test
-one_more : {X : Type 0} (p q t : X → Bool) (xs : List X) (x : X) → AllByRecursion (λ y. p y ≡ true → q y ≡ true) xs → find t xs ≡ Some x → p x ≡ false → q x ≡ true → length (filter p xs) + 1 ≤ length (filter q xs)
+pub one_more : {X : Type 0} (p q t : X → Bool) (xs : List X) (x : X) → AllByRecursion (λ y. p y ≡ true → q y ≡ true) xs → find t xs ≡ Some x → p x ≡ false → q x ≡ true → length (filter p xs) + 1 ≤ length (filter q xs)
 one_more p q t [] x all found out is = cc
 one_more p q t (y ∷ ys) x all found out is = ⊎_elim
     (λ (here : t y ≡ true).
@@ -69,13 +69,13 @@ one_more p q t (y ∷ ys) x all found out is = ⊎_elim
     (cases_Bool (p y)))
     (cases_Bool (t y))
 
-last_is : {X : Type 0} (items : List X) (x : X) (n : ℕ) → length items ≡ n → slice_get (items ++ x ∷ []) n ≡ Some x
+pub last_is : {X : Type 0} (items : List X) (x : X) (n : ℕ) → length items ≡ n → slice_get (items ++ x ∷ []) n ≡ Some x
 last_is [] x zero is = refl
 last_is [] x (suc n) is = absurd (omega (arith, is))
 last_is (y ∷ ys) x zero is = absurd (omega (arith, is))
 last_is (y ∷ ys) x (suc n) is = last_is ys x n (omega (arith, is))
 
-none_after : {X : Type 0} (items : List X) (n : ℕ) → length items ≤ n → slice_get items n ≡ None
+pub none_after : {X : Type 0} (items : List X) (n : ℕ) → length items ≤ n → slice_get items n ≡ None
 none_after [] n few = refl
 none_after (y ∷ ys) zero few = absurd (omega (arith, few))
 none_after (y ∷ ys) (suc n) few = none_after ys n (omega (arith, few))

@@ -1,11 +1,11 @@
 //! Pages of unfinished large files, by number.
 
-ghost use Rattle.std.specs.Prelude.{◌≡◌, ◌≤◌, ◌+◌, [], None, Some, IfOk, if◌then◌else◌, map, take, unwrap_or};
+ghost use Rattle.std.specs.Prelude.{◌≡◌, ◌≤◌, ◌+◌, [], None, Some, IfOk, if◌then◌else◌, length, map, slice_get, take, unwrap_or};
 ghost use Rattle.b2_base.specs.declared.numbers.TheConstants.{LAST_VERSION};
 ghost use Rattle.name_rules.specs.Folder.{begins_with};
 ghost use Rattle.b2_model.specs.Pages.{page_of, page_size as size_of};
 ghost use Rattle.listing_pages.specs.Places.{after_version};
-ghost use Rattle.listing_pages.specs.Unfinished.{AreStarts, asked_starts, start_row, start_spot, starts_in};
+ghost use Rattle.listing_pages.specs.Unfinished.{AreStarts, asked_starts, start_row, start_spot, starts_in, starts_upto};
 
 use crate::ask::Ask;
 use crate::page::{Page, PageRow, push_some};
@@ -102,6 +102,9 @@ fn starts_from<L: Ledger>(
     ensures rows { IfOk result (λ rows. rows.items ≡ take (size + 1) (map start_row
         (asked_starts ask.now.prefix (unwrap_or ask.now.start_num 0)
         (starts_in ask.now.bucket starts.now)))) }
+    ensures steps { IfOk result (λ rows. steps.new ≤ steps.old
+        + length (starts_upto (unwrap_or ask.now.start_num 0) (slice_get rows.items size)
+        (starts_in ask.now.bucket starts.now)) + 1) }
 {
     starts.in_order();
     let first = first_number(ask);
@@ -120,7 +123,7 @@ fn starts_from<L: Ledger>(
 }
 
 /// The page of unfinished files that is asked for: those of the bucket whose names begin with the prefix,
-/// by number, from a number on.
+/// by number, from a number on. It takes a step for each start that it looks at, and one more.
 pub fn unfinished_page<L: Ledger>(
     alloc: Global,
     starts: &Index<FileName>,
@@ -128,9 +131,12 @@ pub fn unfinished_page<L: Ledger>(
     steps: &mut Steps<L>,
 ) -> Result<Page, Memory>
     requires { AreStarts starts.now }
-    ensures { IfOk result (λ page. page ≡ page_of (size_of 100 (Some ask.now.max))
+    ensures page { IfOk result (λ page. page ≡ page_of (size_of 100 (Some ask.now.max))
         (map start_row (asked_starts ask.now.prefix (unwrap_or ask.now.start_num 0)
         (starts_in ask.now.bucket starts.now)))) }
+    ensures steps { IfOk result (λ page. steps.new ≤ steps.old
+        + length (starts_upto (unwrap_or ask.now.start_num 0) page.next
+        (starts_in ask.now.bucket starts.now)) + 1) }
 {
     let size = unfinished_size(ask.max);
     let rows = starts_from(alloc, starts, ask, size, steps)?;

@@ -89,9 +89,11 @@ fn names_from<L: Ledger>(
     requires delimiter { IsDelimiter ask.now.delimiter }
     requires size { size ≤ 1000 }
     ensures rows { IfOk result (λ rows. rows.items ≡ take (size + 1) (map page_row
-        (asked_rows (listing_of ask.now) (visible_versions (of_bucket ask.now.bucket index.now))))) }
+        (asked_rows (listing_of ask.now)
+        (visible_versions (of_bucket ask.now.bucket index.now))))) }
     ensures steps { IfOk result (λ rows. steps.new ≤ steps.old + length (take size rows.items) + 2
-        + length (passed_over ask.now (of_bucket ask.now.bucket index.now) (slice_get rows.items size))) }
+        + length (passed_over ask.now (of_bucket ask.now.bucket index.now)
+        (slice_get rows.items size))) }
 {
     index.in_order();
     let mut place = first_place(alloc, ask, None)?;
@@ -110,7 +112,8 @@ fn names_from<L: Ledger>(
     Ok(rows)
 }
 
-/// The page of names that is asked for, in at most two steps more than it has rows and passes over.
+/// The page of names that is asked for, in at most two steps more than the rows that it has and
+/// those that it passes over.
 pub fn names_page<L: Ledger>(
     alloc: Global,
     index: &Index<Version>,
@@ -119,8 +122,8 @@ pub fn names_page<L: Ledger>(
 ) -> Result<Page, Memory>
     requires own { AreOwn index.now }
     requires delimiter { IsDelimiter ask.now.delimiter }
-    ensures page { IfOk result (λ page. page ≡ shown_page
-        (listing_page (listing_of ask.now) (visible_versions (of_bucket ask.now.bucket index.now)))) }
+    ensures page { IfOk result (λ page. page ≡ shown_page (listing_page (listing_of ask.now)
+        (visible_versions (of_bucket ask.now.bucket index.now)))) }
     ensures steps { IfOk result (λ page. steps.new ≤ steps.old + length page.rows + 2
         + length (passed_over ask.now (of_bucket ask.now.bucket index.now) page.next)) }
 {
