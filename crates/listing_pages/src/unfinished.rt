@@ -122,8 +122,9 @@ fn starts_from<L: Ledger>(
     Ok(rows)
 }
 
-/// The page of unfinished files that is asked for: those of the bucket whose names begin with the prefix,
-/// by number, from a number on. It takes a step for each start that it looks at, and one more.
+/// The page of unfinished files that is asked for: those of the bucket whose names begin with the
+/// prefix, by number, from a number on. It takes a step for each start that it looks at, and one
+/// more.
 pub fn unfinished_page<L: Ledger>(
     alloc: Global,
     starts: &Index<FileName>,
