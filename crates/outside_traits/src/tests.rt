@@ -32,7 +32,8 @@ fn takes(rt: HostRuntime) -> Result<(), Fail> {
     Ok(())
 }
 
-// Opens connection 7, brings it a piece, and stops; call 2 fails, and the send of call 5 finds it lost.
+// Opens a connection, brings it a piece, and stops. The second use of the link fails, and the fifth, which is
+// a send, finds the connection lost.
 fn link(alloc: Global, conn: ConnNum) -> Result<MemLink, Fail> {
     let piece = Event::Piece(conn, Blob::copy(alloc, b"abc")?);
     let events = vec![in alloc; Event::Open(conn), piece]?;
