@@ -36,12 +36,16 @@ after_change t (change.Retain id retention) M = at_version id (λ v. record v { 
 after_change t (change.Hold id hold) M = at_version id (λ v. record v { hold = hold }) M
 after_change t (change.KeyMake k) M = record M { keys = put_by (λ a. a.num) k M.keys; next_key = max M.next_key (k.num + 1) }
 after_change t (change.KeyDrop n) M = record M { keys = filter (λ k. not (k.num == n)) M.keys }
+-- (its number of boots is another, so no token of the opening before stands)
 after_change t (change.SnapState n) M = record M {
   pass_day = n.pass_day;
   boot = n.boot;
+  serial = 0;
   next_bucket = n.next_bucket;
   next_key = n.next_key;
   next_version = n.next_version;
+  grants = [];
+  flights = [];
 }
 after_change t (change.SnapLarge v) M = with_version (version_from t action.Upload [] mark.Large no_digest v) M
 after_change t (change.SnapExtents id pieces) M = at_version id (λ v. record v { content = v.content ++ pieces }) M

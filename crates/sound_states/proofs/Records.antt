@@ -24,7 +24,7 @@ use Rattle.b2_types.specs.LifecycleRules.{are_rules}
 use Rattle.b2_model.specs.Plan.{number_end}
 use Rattle.b2_model.specs.Version.{no_digest, marker, version_from, is_it, with_part}
 use Rattle.b2_model.specs.Finish.{finished_file}
-use Rattle.b2_model.specs.Stored.{numbers_of, is_snap_state, is_large, stands, may_make, may_be, is_number, applies_change}
+use Rattle.b2_model.specs.Stored.{numbers_of, is_large, stands, may_make, may_be, is_number, applies_change}
 use Rattle.b2_model.specs.Pass.{pass}
 use Rattle.b2_model.specs.Changes.{after_record}
 use Rattle.machine_laws.proofs.PassKeeps.{on_each}
@@ -244,53 +244,49 @@ module _ {C : Type 0} where
         moments = omega arith;
       }
 
-  -- the numbers of a snapshot come before any token is given
-  abbrev pub ComesFirst : State C → ChangeOf C → Type 0
-  ComesFirst M ch = is_snap_state ch ≡ true → M.grants ≡ []
-
-  pub record_sound : (M : State C) (t : ℕ) (ch : ChangeOf C) → IsSound M → applies_change M ch ≡ true → IsFitChange ch → ComesFirst M ch → IsSound (after_record M (record { at = t; change = ch }))
-  record_sound M t (change.Settings s) sound is fit first = absurd (false≢true is)
-  record_sound M t (change.Boot n) sound is fit first = record { buckets = sound.buckets; versions = sound.versions; keys = sound.keys; tokens = no_tokens _ 0 (omega arith); flights = no_flights []; moments = omega arith }
-  record_sound M t change.Pass sound is fit first = passed M t sound
-  record_sound M t (change.BucketMake b) sound is fit first = bucket_put M t b sound is
-  record_sound M t (change.BucketUpdate b) sound is fit first = bucket_set M t b sound is
-  record_sound M t (change.BucketDrop n) sound is fit first = bucket_gone M t n sound is
-  record_sound M t (change.Upload v content m digest) sound is fit first =
+  pub record_sound : (M : State C) (t : ℕ) (ch : ChangeOf C) → IsSound M → applies_change M ch ≡ true → IsFitChange ch → IsSound (after_record M (record { at = t; change = ch }))
+  record_sound M t (change.Settings s) sound is fit = absurd (false≢true is)
+  record_sound M t (change.Boot n) sound is fit = record { buckets = sound.buckets; versions = sound.versions; keys = sound.keys; tokens = no_tokens _ 0 (omega arith); flights = no_flights []; moments = omega arith }
+  record_sound M t change.Pass sound is fit = passed M t sound
+  record_sound M t (change.BucketMake b) sound is fit = bucket_put M t b sound is
+  record_sound M t (change.BucketUpdate b) sound is fit = bucket_set M t b sound is
+  record_sound M t (change.BucketDrop n) sound is fit = bucket_gone M t n sound is
+  record_sound M t (change.Upload v content m digest) sound is fit =
       let w = version_from t action.Upload (content ∷ []) m digest v in
       other_versions M t (max M.next_version (v.num + 1)) (put_by (λ x. x.num) w M.versions) (omega arith) sound (with_new M w sound is (upload_holds t v content m digest fit))
-  record_sound M t (change.Hide id name) sound is fit first =
+  record_sound M t (change.Hide id name) sound is fit =
       let w = marker id.bucket id.num name t in
       other_versions M t (max M.next_version (id.num + 1)) (put_by (λ x. x.num) w M.versions) (omega arith) sound (with_new M w sound is refl)
-  record_sound M t (change.Start v) sound is fit first =
+  record_sound M t (change.Start v) sound is fit =
       let w = version_from t action.Start [] mark.Large no_digest v in
       other_versions M t (max M.next_version (v.num + 1)) (put_by (λ x. x.num) w M.versions) (omega arith) sound (with_new M w sound is (start_holds t v))
-  record_sound M t (change.PartPut id n content m digest) sound is fit first =
+  record_sound M t (change.PartPut id n content m digest) sound is fit =
       let p : PartOf C = record { number = n; content = content; mark = m; digest = digest; stamp = t } in
       at_one M t id (λ v. is_start v.action) (with_part p) sound is (λ v. refl) (λ v. refl) (λ v start holds. part_holds p v v.action refl start holds)
-  record_sound M t (change.Finish id retention) sound is fit first =
+  record_sound M t (change.Finish id retention) sound is fit =
       at_one M t id (λ v. is_start v.action) (finished_file retention) sound is (λ v. refl) (λ v. refl) (λ v start holds. finish_holds retention v v.action start holds)
-  record_sound M t (change.Cancel id) sound is fit first = without M t id sound
-  record_sound M t (change.VersionDrop id) sound is fit first = without M t id sound
-  record_sound M t (change.Retain id retention) sound is fit first =
+  record_sound M t (change.Cancel id) sound is fit = without M t id sound
+  record_sound M t (change.VersionDrop id) sound is fit = without M t id sound
+  record_sound M t (change.Retain id retention) sound is fit =
       at_one M t id (λ v. is_upload v.action) (λ v. record v { retention = retention }) sound is (λ v. refl) (λ v. refl) (λ v up holds. retain_holds retention v v.action up holds)
-  record_sound M t (change.Hold id hold) sound is fit first =
+  record_sound M t (change.Hold id hold) sound is fit =
       at_one M t id (λ v. is_upload v.action) (λ v. record v { hold = hold }) sound is (λ v. refl) (λ v. refl) (λ v up holds. hold_holds hold v v.action up holds)
-  record_sound M t (change.KeyMake k) sound is fit first = key_put M t k sound is
-  record_sound M t (change.KeyDrop n) sound is fit first = key_gone M t n sound is
-  record_sound M t (change.SnapState n) sound is fit first =
+  record_sound M t (change.KeyMake k) sound is fit = key_put M t k sound is
+  record_sound M t (change.KeyDrop n) sound is fit = key_gone M t n sound is
+  record_sound M t (change.SnapState n) sound is fit =
       let all = both_hold (nat_le M.next_bucket n.next_bucket && nat_le M.next_key n.next_key) (nat_le M.next_version n.next_version) is in
       let both = both_hold (nat_le M.next_bucket n.next_bucket) (nat_le M.next_key n.next_key) all.0 in
       record {
         buckets = buckets_renumbered M.next_bucket n.next_bucket M.buckets (at_most M.next_bucket n.next_bucket both.0) fit.0 sound.buckets;
         versions = versions_renumbered M.buckets M.next_version n.next_version M.versions (at_most M.next_version n.next_version all.1) sound.versions;
         keys = keys_renumbered M.settings M.next_key n.next_key M.keys (at_most M.next_key n.next_key both.1) fit.1 sound.keys;
-        tokens = subst (AreTokens _ M.serial) (sym (first refl)) (no_tokens _ M.serial sound.tokens.last);
-        flights = sound.flights;
+        tokens = no_tokens _ 0 (omega arith);
+        flights = no_flights [];
         moments = omega arith;
       }
-  record_sound M t (change.SnapLarge v) sound is fit first =
+  record_sound M t (change.SnapLarge v) sound is fit =
       let w = version_from t action.Upload [] mark.Large no_digest v in
       other_versions M t (max M.next_version (v.num + 1)) (put_by (λ x. x.num) w M.versions) (omega arith) sound (with_new M w sound is (refl, refl))
-  record_sound M t (change.SnapExtents id pieces) sound is fit first =
+  record_sound M t (change.SnapExtents id pieces) sound is fit =
       at_one M t id (λ v. is_large v.mark && is_upload v.action) (λ v. record v { content = v.content ++ pieces }) sound is (λ v. refl) (λ v. refl)
       (λ v large holds. pieces_hold pieces v v.action large holds)

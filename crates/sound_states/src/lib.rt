@@ -1,12 +1,12 @@
 //! Sound states: what holds of every state that records and steps give.
 #![tactic(auto)]
 
-ghost use Rattle.std.specs.Prelude.{◌≡◌, ℕ, true, List, [], Some, All};
+ghost use Rattle.std.specs.Prelude.{◌≡◌, ℕ, true, List, Some, All};
 ghost use Rattle.b2_base.specs.declared.settings.Settings.{Settings as TheSettings};
 ghost use Rattle.b2_types.specs.declared.record.RecordOf.{RecordOf};
 ghost use Rattle.b2_model.specs.State.{State};
 ghost use Rattle.b2_model.specs.Changes.{after_record, new_store};
-ghost use Rattle.b2_model.specs.Stored.{applies_change, is_snap_state, replay};
+ghost use Rattle.b2_model.specs.Stored.{applies_change, replay};
 ghost use Rattle.sound_states.specs.Sound.{IsSound, IsFitChange};
 
 /// The store that is made is sound.
@@ -15,13 +15,11 @@ pub fn made_store_is_sound<C>()
     ensures { (settings : TheSettings) (t : ℕ) → IsSound {C = C} (new_store settings t) }
 {}
 
-/// A record that applies keeps a state sound. The numbers of a snapshot come before any token is
-/// given.
+/// A record that applies keeps a state sound.
 #[tactic(auto)]
 pub fn records_keep_sound<C>()
     ensures { (M : State C) (r : RecordOf C) → IsSound M → applies_change M r.change ≡ true
-        → IsFitChange r.change → (is_snap_state r.change ≡ true → M.grants ≡ [])
-        → IsSound (after_record M r) }
+        → IsFitChange r.change → IsSound (after_record M r) }
 {}
 
 /// What records replay as is sound.
