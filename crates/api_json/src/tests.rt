@@ -1,13 +1,9 @@
-//! Values of Basic headers, and bodies.
+//! Values of Basic headers, and a body. The bodies of all answers are rows of `worked_answers`.
 
 use crate::{basic, refusal_body, write_answer};
-use b2_base::{BucketNum, KeyNum, List, Memory, Moment, Text, VersionNum};
-use b2_types::{
-    ApiVersion, Fault, Mark, NextRow, RowKind, Shown, ShownAccount, ShownBucket, ShownDigest,
-    ShownFile, ShownKey, ShownLimit, ShownLock,
-};
-use name_rules::{BucketName, bucket_name, info_pairs};
-use rule_table::{Cap, CapSet, FaultKind};
+use b2_base::{BucketNum, List, Memory, Moment, Text, VersionNum};
+use b2_types::{Fault, Mark, NextRow, RowKind, Shown, ShownDigest, ShownFile};
+use rule_table::FaultKind;
 use std::alloc::Global;
 use std::test::Fail;
 
@@ -58,100 +54,6 @@ fn pairs(rt: HostRuntime) -> Result<(), Fail> {
 // The body of the answer, which ends here: no exit of a test has an answer to drop.
 fn written(alloc: Global, shown: Shown) -> Result<Text, Memory> {
     write_answer(alloc, &shown)
-}
-
-fn named(alloc: Global, name: &[u8]) -> Result<BucketName, Fail> {
-    Ok(bucket_name(alloc, name).ok().ok_or("a name")?)
-}
-
-fn limited(alloc: Global, version: ApiVersion) -> Result<ShownAccount, Fail> {
-    let bucket = BucketNum::new(1).ok_or("a bucket")?;
-    let name = Some(named(alloc, b"photos-1")?);
-    Ok(ShownAccount {
-        version,
-        account: Text::copy(alloc, "a1b2c3d4e5f6")?,
-        token: Text::copy(alloc, "3_\"")?,
-        url: Text::copy(alloc, "http://127.0.0.1:8080")?,
-        part_min: 10,
-        caps: CapSet::none().with(Cap::ReadFiles).with(Cap::ListFiles),
-        buckets: List::of(vec![in alloc; ShownLimit { bucket, name }]?),
-        prefix: Text::copy(alloc, "logs/")?,
-        end: Some(Moment::from_reading(2_000)),
-    })
-}
-
-const LIMITED: &str =
-    "{\"accountId\":\"a1b2c3d4e5f6\",\"apiInfo\":{\"storageApi\":{\"absoluteMinimumPartSize\":10,\"apiUrl\":\"http://127.0.0.1:8080\",\"bucketId\":\"000000000000000000000001\",\"bucketName\":\"photos-1\",\"capabilities\":[\"listFiles\",\"readFiles\"],\"downloadUrl\":\"http://127.0.0.1:8080\",\"infoType\":\"storageApi\",\"namePrefix\":\"logs/\",\"recommendedPartSize\":100000000}},\"applicationKeyExpirationTimestamp\":2000,\"authorizationToken\":\"3_\\\"\"}";
-
-const LIMITED_FOUR: &str =
-    "{\"accountId\":\"a1b2c3d4e5f6\",\"apiInfo\":{\"storageApi\":{\"absoluteMinimumPartSize\":10,\"apiUrl\":\"http://127.0.0.1:8080\",\"buckets\":[{\"id\":\"000000000000000000000001\",\"name\":\"photos-1\"}],\"capabilities\":[\"listFiles\",\"readFiles\"],\"downloadUrl\":\"http://127.0.0.1:8080\",\"infoType\":\"storageApi\",\"namePrefix\":\"logs/\",\"recommendedPartSize\":100000000}},\"applicationKeyExpirationTimestamp\":2000,\"authorizationToken\":\"3_\\\"\"}";
-
-// The account of a key that is limited to a bucket and a prefix, and ends.
-#[test]
-fn limited_account(rt: HostRuntime) -> Result<(), Fail> {
-    let alloc = rt.alloc();
-    let three = written(alloc, Shown::Account(limited(alloc, ApiVersion::V3)?))?;
-    assert_eq!(rt; three.get(), LIMITED);
-    let four = written(alloc, Shown::Account(limited(alloc, ApiVersion::V4)?))?;
-    assert_eq!(rt; four.get(), LIMITED_FOUR);
-    Ok(())
-}
-
-const BUCKET: &str =
-    "{\"accountId\":\"a1b2c3d4e5f6\",\"bucketId\":\"000000000000000000000001\",\"bucketInfo\":{},\"bucketName\":\"photos-1\",\"bucketType\":\"allPrivate\",\"corsRules\":[],\"defaultServerSideEncryption\":{\"isClientAuthorizedToRead\":false,\"value\":null},\"fileLockConfiguration\":{\"isClientAuthorizedToRead\":true,\"value\":{\"defaultRetention\":{\"mode\":null,\"period\":null},\"isFileLockEnabled\":false}},\"lifecycleRules\":[],\"options\":[],\"revision\":1}";
-
-#[test]
-fn new_bucket(rt: HostRuntime) -> Result<(), Fail> {
-    let alloc = rt.alloc();
-    let bucket = ShownBucket {
-        account: Text::copy(alloc, "a1b2c3d4e5f6")?,
-        num: BucketNum::new(1).ok_or("a bucket")?,
-        name: named(alloc, b"photos-1")?,
-        public: false,
-        revision: 1,
-        lock: Some(ShownLock {
-            enabled: false,
-            default: None,
-        }),
-        info: info_pairs(alloc, &[]).ok().ok_or("pairs")?,
-        rules: List::of(Vec::new(alloc)),
-    };
-    assert_eq!(rt; written(alloc, Shown::Bucket(bucket))?.get(), BUCKET);
-    Ok(())
-}
-
-const KEYS: &str =
-    "{\"keys\":[{\"accountId\":\"a1b2c3d4e5f6\",\"applicationKeyId\":\"001a1b2c3d4e5f60000000002\",\"bucketId\":\"000000000000000000000001\",\"capabilities\":[],\"expirationTimestamp\":null,\"keyName\":\"two\",\"namePrefix\":null,\"options\":[\"multiBucket\"]},{\"accountId\":\"a1b2c3d4e5f6\",\"applicationKeyId\":\"a1b2c3d4e5f6\",\"bucketIds\":null,\"capabilities\":[],\"expirationTimestamp\":null,\"keyName\":\"two\",\"namePrefix\":null,\"options\":[]}],\"nextApplicationKeyId\":null}";
-
-fn key(
-    alloc: Global,
-    version: ApiVersion,
-    num: u32,
-    buckets: Vec<BucketNum>,
-) -> Result<ShownKey, Fail> {
-    Ok(ShownKey {
-        version,
-        account: Text::copy(alloc, "a1b2c3d4e5f6")?,
-        num: KeyNum::new(num).ok_or("a key")?,
-        name: Text::copy(alloc, "two")?,
-        caps: CapSet::none(),
-        buckets: List::of(buckets),
-        prefix: Text::copy(alloc, "")?,
-        end: None,
-    })
-}
-
-// A key of two buckets in version 3, and the master key in version 4.
-#[test]
-fn two_keys(rt: HostRuntime) -> Result<(), Fail> {
-    let alloc = rt.alloc();
-    let first = BucketNum::new(1).ok_or("a bucket")?;
-    let second = BucketNum::new(3).ok_or("a bucket")?;
-    let limited = key(alloc, ApiVersion::V3, 2, vec![in alloc; first, second]?)?;
-    let master = key(alloc, ApiVersion::V4, 0, Vec::new(alloc))?;
-    let keys = List::of(vec![in alloc; limited, master]?);
-    assert_eq!(rt; written(alloc, Shown::Keys(keys, None))?.get(), KEYS);
-    Ok(())
 }
 
 const ROWS: &str =

@@ -90,6 +90,15 @@ new_key_text_4 =
     ++ codes "\"bucketIds\":[\"000000000000000000000001\"],\"capabilities\":[\"listFiles\"],"
     ++ codes "\"expirationTimestamp\":61000,\"keyName\":\"k\",\"namePrefix\":null,\"options\":[]}"
 
+-- and one of no bucket
+abbrev pub free_key_text_4 : List ℕ
+free_key_text_4 =
+    codes "{\"accountId\":\"a1b2c3d4e5f6\","
+    ++ codes "\"applicationKey\":\"K0010000000000000001000000000000000200000000000000030000000000000004\","
+    ++ codes "\"applicationKeyId\":\"001a1b2c3d4e5f60000000002\",\"bucketIds\":null,"
+    ++ codes "\"capabilities\":[\"listFiles\"],\"expirationTimestamp\":61000,\"keyName\":\"k\","
+    ++ codes "\"namePrefix\":null,\"options\":[]}"
+
 abbrev pub key_text : List ℕ
 key_text =
     codes "{\"accountId\":\"a1b2c3d4e5f6\",\"applicationKeyId\":\"001a1b2c3d4e5f60000000001\","

@@ -31,6 +31,10 @@ limit_account version buckets =
 abbrev pub bucket_key : Outcome Bytes
 bucket_key = by_master key_store 1000 (call.CreateKey (record (new_key (ListFiles ∷ []) (Some (1 ∷ []))) { version = V4 }))
 
+-- a key of no bucket
+abbrev pub free_key : Outcome Bytes
+free_key = by_master key_store 1000 (call.CreateKey (record (new_key (ListFiles ∷ []) None) { version = V4 }))
+
 -- the key of the buckets 1 and 3 is deleted
 abbrev pub key_of_two : ApiVersion → Outcome Bytes
 key_of_two version = by_master three_buckets 1000 (call.DeleteKey (record { version = version; key = first_id }))

@@ -9,3 +9,7 @@ returns-clause-third_version c = refl
 pub returns-clause-fourth_version : goal.returns-clause-fourth_version
 unfolding text_on_literals
 returns-clause-fourth_version c = refl
+
+pub returns-clause-of_no_bucket : goal.returns-clause-of_no_bucket
+unfolding text_on_literals
+returns-clause-of_no_bucket c = refl
