@@ -69,7 +69,9 @@ import os, sys, time
 program, beside, files, RUNS = *sys.argv[1:4], int(sys.argv[4])
 MIB = 1 << 20
 SIZE = 1024 * MIB
-HOLES, TAKES = 100_000, 1_000
+HOLES = 100_000
+# takes and returns in one run, far more seconds of them than a run's own start differs by
+TAKES = {"first_hole": 1_000_000, "past_holes": 4_000}
 STREAMS = {
     "sha1 alone": [program, "hash"],
     "into memory": [program, "store_flat"],
@@ -113,12 +115,12 @@ def streams():
 
 def takes(what):
     """The least seconds of the processor for a take and a return."""
-    least = {}
-    for _ in range(RUNS):
-        for times in (0, TAKES):
+    least, most = {}, TAKES[what]
+    for _ in range(min(RUNS, 2)):
+        for times in (0, most):
             _, used, _, _ = run([program, what], HOLES, times)
             least[times] = min(used, least.get(times, used))
-    return (least[TAKES] - least[0]) / TAKES
+    return (least[most] - least[0]) / most
 
 DIGEST = run(STREAMS["OpenSSL alone"], SIZE, 1)[3]
 seconds, busy, peaks = streams()
