@@ -8,7 +8,7 @@ use name_rules::BucketName;
 use std::alloc::Global;
 
 /// The same name.
-pub(crate) fn copy_name(alloc: Global, name: &BucketName) -> Result<BucketName, Memory>
+pub fn copy_name(alloc: Global, name: &BucketName) -> Result<BucketName, Memory>
     ensures { IfOk result (λ n. n ≡ name.now) }
 {
     let text = Text::copy(alloc, name.get())?;
@@ -28,7 +28,7 @@ fn copy_rule(alloc: Global, rule: &Rule) -> Result<Rule, Memory>
 }
 
 /// The same rules.
-pub(crate) fn copy_rules(alloc: Global, rules: &[Rule]) -> Result<List<Rule>, Memory>
+pub fn copy_rules(alloc: Global, rules: &[Rule]) -> Result<List<Rule>, Memory>
     ensures { IfOk result (λ rs. rs ≡ rules.now) }
 {
     let mut copies = Vec::new(alloc);

@@ -8,6 +8,7 @@ mod refusal;
 mod remove;
 mod update;
 
+pub use copies::{copy_name, copy_rules};
 pub use create::buckets_create;
 pub use list::buckets_list;
 pub use refusal::{BucketRefusal, fault_of};
