@@ -28,11 +28,14 @@ equal_from Less is = absurd (false≢true is)
 equal_from Equal is = refl
 equal_from Greater is = absurd (false≢true is)
 
-less_from : (m n : ℕ) → nat_cmp m n ≡ Less → m < n
+pub less_from : (m n : ℕ) → nat_cmp m n ≡ Less → m < n
 less_from m n h = rw h at (ranked m n (nat_cmp m n) refl)
 
 pub same_from : (m n : ℕ) → nat_cmp m n ≡ Equal → m ≡ n
 same_from m n h = rw h at (ranked m n (nat_cmp m n) refl)
+
+pub greater_from : (m n : ℕ) → nat_cmp m n ≡ Greater → n < m
+greater_from m n h = rw h at (ranked m n (nat_cmp m n) refl)
 
 -- what stands later lies in the same bucket or in a later one
 pub later_bucket : (s t : Spot) → listing_cmp s t ≡ Less → s.bucket ≤ t.bucket
@@ -52,7 +55,7 @@ other_bucket s t is other = elim (then_le (nat_cmp s.bucket t.bucket) _ is) [
 pub not_later : (s r t : Spot) → is_spot s r ≡ true → listing_cmp r t ≡ Less → is_spot s t ≡ false
 not_later s r t same later = ap is_eq (listing_total.congr s r t (equal_from (listing_cmp s r) same) ∙ later)
 
-up_to : (m n : ℕ) → m ≤ n → is_le (nat_cmp m n) ≡ true
+pub up_to : (m n : ℕ) → m ≤ n → is_le (nat_cmp m n) ≡ true
 up_to m n low = grind (arith, common_steps)
 
 -- each row of a name stands at the name's last number or after it

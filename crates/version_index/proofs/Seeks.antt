@@ -1,14 +1,18 @@
 -- The first row of a range, and of a name.
-use Rattle.std.proofs.Common.{◌≡◌, ◌≤◌, ◌&&◌, None, Some, Bool, true, false, not, List, [], ◌∷◌, subst, sym, ap, ◌∙◌, ⊎_elim, refl, arith, is_le, Less}
+use Rattle.std.proofs.Common.{◌≡◌, ℕ, ◌≤◌, ◌&&◌, None, Some, Bool, true, false, not, nat_le, List, [], ◌∷◌, subst, sym, ap, ◌∙◌, ⊎_elim, refl, arith, is_le, nat_cmp, Less, Equal, Greater}
 use Rattle.std.specs.Prelude.{◌==◌, bytes_eq}
 use Rattle.std.specs.List.{AllByRecursion, filter, find}
 use Rattle.std.specs.Map.{keys_of}
+use Rattle.std.specs.declared.cmp.Ordering.{Ordering}
+use Rattle.std.specs.Ordering.{ordering_then}
+use Rattle.std.specs.Cmp.Lexicographic.{slice_cmp}
 use Rattle.std.proofs.lemmas.Bool.{and_left, and_parts, and_right, cases_Bool, ne_eqb, false≢true}
+use Rattle.std.proofs.lemmas.Bool.Decides.{nat_tests}
 use Rattle.std.proofs.lemmas.Map.Keys.{sorted_head, sorted_tail}
 use Rattle.b2_base.specs.declared.numbers.TheConstants.{LAST_VERSION}
 use Rattle.version_index.specs.declared.spot.Spot.{Spot}
-use Rattle.version_index.specs.Rows.{AreAscending, AreInRange, first_named, is_from, is_named, listing_cmp, row_from}
-use Rattle.version_index.proofs.Orders.{later_bucket, named_from, other_bucket, past_name}
+use Rattle.version_index.specs.Rows.{AreAscending, AreInRange, first_named, first_spot, is_from, is_named, listing_cmp, row_from}
+use Rattle.version_index.proofs.Orders.{greater_from, later_bucket, less_from, named_from, other_bucket, past_name, same_from, up_to}
 
 pub with_true : (b : Bool) → (b && true) ≡ b
 with_true false = refl
@@ -104,3 +108,24 @@ module _ {V : Type 0} (s : Spot) where
 
   pub found_named : (rows : List (Spot × V)) (row : Spot × V) → row_from s rows ≡ Some row → (b : Bool) → bytes_eq row.0.name s.name ≡ b → is_named s row.0 ≡ b
   found_named rows row is b name = ap (λ v. v && bytes_eq row.0.name s.name) (and_parts (row.0.bucket == s.bucket) (is_le (listing_cmp s row.0)) (found_from rows row is)).0 ∙ name
+
+-- ---- from a bucket on
+
+-- in an order of the names, after the empty one
+names_after : (name : List ℕ) (m n : ℕ) → m ≤ n → is_le (ordering_then (slice_cmp nat_cmp [] name) (nat_cmp m n)) ≡ true
+names_after [] m n low = up_to m n low
+names_after (x ∷ xs) m n low = refl
+
+by_bucket : (b c : ℕ) (o p : Ordering) → nat_cmp b c ≡ o → is_le p ≡ true → is_le (ordering_then (nat_cmp b c) p) ≡ nat_le b c
+by_bucket b c Less p is inner = let low = less_from b c is in let e : nat_le b c ≡ true = grind (arith, nat_tests) in rw (is, e) refl
+by_bucket b c Equal p is inner = let same = same_from b c is in let e : nat_le b c ≡ true = grind (arith, nat_tests) in rw (is, e) inner
+by_bucket b c Greater p is inner = let high = greater_from b c is in let e : nat_le b c ≡ false = grind (arith, nat_tests) in rw (is, e) refl
+
+-- what stands at the bucket's first spot or after it is of the bucket or of a later one
+first_is : (b : ℕ) (t : Spot) → t.num ≤ LAST_VERSION → is_le (listing_cmp (first_spot b) t) ≡ nat_le b t.bucket
+first_is b t within = by_bucket b t.bucket (nat_cmp b t.bucket) _ refl (names_after t.name t.num LAST_VERSION within)
+
+module _ {V : Type 0} where
+  pub from_first : (b : ℕ) (rows : List (Spot × V)) → AreInRange rows → from_here (first_spot b) rows ≡ filter (λ r. nat_le b r.0.bucket) rows
+  from_first b [] all = refl
+  from_first b (r ∷ rs) all = rw (with_true (is_le (listing_cmp (first_spot b) r.0)) ∙ first_is b r.0 all.0, from_first b rs all.1) refl

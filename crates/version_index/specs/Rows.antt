@@ -1,5 +1,5 @@
 -- The rows of an index in listing order (the B2 reference, b2_list_file_versions).
-use Rattle.std.specs.Prelude.{◌≤◌, Bool, not, ◌&&◌, ◌==◌, Option, List, [], ◌∷◌, filter, find, bytes_eq, if◌then◌else◌}
+use Rattle.std.specs.Prelude.{ℕ, ◌≤◌, Bool, not, ◌&&◌, ◌==◌, Option, List, [], ◌∷◌, filter, find, bytes_eq, if◌then◌else◌}
 use Rattle.std.specs.Map.{keys_of, lookup}
 use Rattle.std.specs.List.{AllByRecursion}
 use Rattle.b2_base.specs.declared.numbers.TheConstants.{LAST_VERSION}
@@ -14,6 +14,10 @@ abbrev pub listing_cmp : Spot → Spot → Ordering
 listing_cmp s t =
     ordering_then (nat_cmp s.bucket t.bucket)
     (ordering_then (slice_cmp nat_cmp s.name t.name) (nat_cmp t.num s.num))
+
+-- before all rows of the bucket
+abbrev pub first_spot : ℕ → Spot
+first_spot bucket = record { bucket = bucket; name = []; num = LAST_VERSION }
 
 -- the two are one spot
 abbrev pub is_spot : Spot → Spot → Bool

@@ -1,17 +1,34 @@
 //! The index of versions.
 
-ghost use Rattle.std.specs.Prelude.{◌≡◌, ◌+◌, None, [], IfErr, OnOk, OnErr};
+ghost use Rattle.std.specs.Prelude.{◌≡◌, ◌+◌, None, [], IfErr, OnOk, OnErr, filter, nat_le};
+ghost use Rattle.std.specs.Map.Iter.{ShowsInOrder, deref_pair};
 ghost use Rattle.std.specs.Option.{option_copied, option_map};
 ghost use Rattle.b2_base.specs.declared.numbers.TheConstants.{LAST_VERSION};
-ghost use Rattle.version_index.specs.Rows.{AreAscending, AreInRange, first_named, placed, row_from, value_at, without};
+ghost use Rattle.version_index.specs.declared.spot.Spot.{Spot as Place};
+ghost use Rattle.version_index.specs.Rows.{AreAscending, AreInRange, first_named, first_spot, placed, row_from, value_at, without};
 
 use crate::spot::Spot;
 use crate::steps::Steps;
-use b2_base::Memory;
+use b2_base::{Blob, BucketNum, LAST_VERSION, Memory, VersionNum};
 use std::alloc::Global;
 use std::collections::BTreeMap;
+use std::collections::btree_map::Range;
 use std::marker::Model;
 use std::sync::ledger::Ledger;
+
+// The place before all rows of the bucket.
+fn first_spot(alloc: Global, bucket: BucketNum) -> Spot
+    ensures { result ≡ first_spot bucket }
+{
+    match VersionNum::new(LAST_VERSION) {
+        Some(num) => Spot {
+            bucket,
+            name: Blob::of(Vec::new(alloc)),
+            num,
+        },
+        None => unreachable!(),
+    }
+}
 
 /// Values at their spots, which clauses see as rows in listing order.
 #[derive(Debug, Drop)]
@@ -110,5 +127,15 @@ impl<V: Drop> Index<V> {
         } else {
             None
         }
+    }
+    /// The rows of the bucket and of those with greater numbers, in listing order: one way down the
+    /// index, and then from row to row.
+    pub fn from_bucket(&self, alloc: Global, bucket: BucketNum) -> Range<'_, Spot, V>
+        ensures rest { result ≡ filter (λ r. nat_le bucket r.0.bucket) self.now }
+        ensures runs { ShowsInOrder (deref_pair {K = Place} {X = V}) }
+        ensures ascending { AreAscending self.now }
+    {
+        let first = first_spot(alloc, bucket);
+        self.rows.range(&first..)
     }
 }
