@@ -1,0 +1,6 @@
+pub mod Made
+pub mod Conns
+pub mod Runs
+pub mod Shown
+pub mod Silent
+pub mod Once

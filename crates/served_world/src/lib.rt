@@ -1,0 +1,9 @@
+//! What a server is to do for a list of events on its connections, and what holds of all that it
+//! sends. Definitions and laws.
+#![tactic(auto)]
+
+mod laws;
+mod reads;
+
+pub use laws::{every_run_is_served, link_has_what_was_sent, nothing_sent_unasked, one_run};
+pub use reads::Requests;
