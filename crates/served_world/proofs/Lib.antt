@@ -4,3 +4,5 @@ pub mod Runs
 pub mod Shown
 pub mod Silent
 pub mod Once
+pub mod Flights
+pub mod Whole

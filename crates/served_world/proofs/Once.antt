@@ -2,7 +2,6 @@
 use Rattle.std.proofs.Common.{◌≡◌, ℕ, Bool, true, false, List, [], ◌∷◌, ◌++◌, length, take, Option, Some, None, MatchOption, sym, ap, ◌∙◌, subst}
 use Rattle.outside_traits.specs.declared.link.Event.{Event}
 use Rattle.outside_traits.specs.declared.link.Event.TheVariants as event
-use Rattle.outside_traits.specs.Links.{front_sent}
 use Rattle.b2_types.specs.declared.upload.UploadCall.{UploadCall}
 use Rattle.b2_model.specs.Body.{body_of}
 use Rattle.b2_model.specs.Run.{asks, begins, ends}
@@ -13,7 +12,7 @@ use Rattle.conn_talk.specs.Asked.{Asked, nothing, refused, begun, complete, IsAs
 use Rattle.conn_talk.specs.Talk.{next_talk, shown_as, with_sent, is_whole}
 use Rattle.conn_talk.proofs.Once.{one_asked}
 use Rattle.served_world.specs.Replies.{Reads, Reply, Outcome, made, Begins, Ends, Asks, BeginsOnce, EndsUnrefused, IsCarriedOut, Makes}
-use Rattle.served_world.specs.World.{Turn, Conn, World, with_conn, opened, nothing_made, after_piece, IsPiece, gone, handed, is_last, with_send, conn_after, GoesOn, IsAfterSend, IsSent, IsReady, Happens, Run}
+use Rattle.served_world.specs.World.{Turn, Conn, World, with_conn, opened, nothing_made, after_piece, IsPiece, gone, handed, conn_after, GoesOn, IsAfterSend, IsSent, IsReady, Happens, Run}
 use Rattle.served_world.specs.Laws.{AreOne}
 
 module _ (R : Reads) (one : AreOne R) where
@@ -81,7 +80,7 @@ module _ (R : Reads) (one : AreOne R) where
   one_sent reading w c k p None u v is too = is ∙ sym too
   one_sent reading w c k p (Some n) u v is too =
       let bytes = take n (handed p) in
-      after_once reading (with_send w (front_sent c (handed p) (is_last k.talk p) n)) c (conn_after k bytes p) p (is_whole (with_sent (length bytes) p)) u v is too
+      after_once reading _ c (conn_after k bytes p) p (is_whole (with_sent (length bytes) p)) u v is too
 
   one_event : (reading : ℕ) (took : Option ℕ) (w : World) (e : Event) (u v : World) → Happens R reading took w e u → Happens R reading took w e v → u ≡ v
   one_event reading took w event.Stop u v is too = is ∙ sym too

@@ -112,7 +112,7 @@ module _ (R : Reads) where
   sent_shown reading w c k p None v shown is = subst IsShown (sym is) (gone_shown reading w c k shown)
   sent_shown reading w c k p (Some n) v shown is =
       let bytes = take n (handed p) in
-      after_shown reading (with_send w (front_sent c (handed p) (is_last k.talk p) n)) c (conn_after k bytes p) p (is_whole (with_sent (length bytes) p)) v (send_shown w c k.sent (handed p) (is_last k.talk p) n shown) is
+      after_shown reading _ c (conn_after k bytes p) p (is_whole (with_sent (length bytes) p)) v (send_shown w c k.sent (handed p) (is_last k.talk p) n shown) is
 
   event_shown : (reading : ℕ) (took : Option ℕ) (w : World) (e : Event) (v : World) → IsShown w → Happens R reading took w e v → IsShown v
   event_shown reading took w event.Stop v shown is = subst IsShown (sym is) shown

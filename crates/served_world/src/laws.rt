@@ -1,12 +1,15 @@
 //! What holds of all runs.
 
-ghost use Rattle.std.specs.Prelude.{◌≡◌, ℕ, List, [], Some};
+ghost use Rattle.std.specs.Prelude.{◌≡◌, ℕ, List, [], Some, None, option_map};
 ghost use Rattle.std.specs.List.{flat_map};
+ghost use Rattle.std.specs.Option.{is_some};
 ghost use Rattle.b2_model.specs.State.{State};
+ghost use Rattle.b2_model.specs.UploadSteps.{flight_of};
+ghost use Rattle.conn_talk.specs.Talk.{is_uploading};
 ghost use Rattle.served_world.specs.Replies.{Reads};
 ghost use Rattle.served_world.specs.World.{Turn, Conn, World, start, Run};
 ghost use Rattle.served_world.specs.Served.{IsServed, IsShown, bytes_on};
-ghost use Rattle.served_world.specs.Laws.{AreOne, HasNone};
+ghost use Rattle.served_world.specs.Laws.{AreOne, HasNone, IsUnfinished};
 
 use crate::reads::Requests;
 
@@ -45,4 +48,24 @@ pub fn nothing_sent_unasked<Q: Requests>()
     ensures link { (M : State (List ℕ)) (words : List ℕ) (turns : List Turn) (w : World)
         → Run (record { call = Q.call; upload = Q.upload }) (start M words) turns w
         → w.answered ≡ [] → (c : ℕ) → flat_map (bytes_on c) w.sends ≡ [] }
+{}
+
+/// Every whole request has its reply, and so has each whose form or begin is refused: of an open
+/// connection without one nothing came yet, or its bytes are no whole request. A list of events
+/// that ends here leaves no other request open.
+pub fn whole_requests_are_answered<Q: Requests>()
+    ensures { (M : State (List ℕ)) (words : List ℕ) (turns : List Turn) (w : World)
+        (c : ℕ) (k : Conn) → M.flights ≡ []
+        → Run (record { call = Q.call; upload = Q.upload }) (start M words) turns w
+        → w.conns c ≡ Some k → k.talk.reply ≡ None → IsUnfinished k.talk }
+{}
+
+/// An upload is under way in the machine exactly where one began on the open connection of that
+/// number and has no reply.
+pub fn uploads_are_on_connections<Q: Requests>()
+    ensures { (M : State (List ℕ)) (words : List ℕ) (turns : List Turn) (w : World)
+        (c : ℕ) → M.flights ≡ []
+        → Run (record { call = Q.call; upload = Q.upload }) (start M words) turns w
+        → is_some (flight_of w.machine.state c)
+        ≡ is_uploading (option_map (λ (k : Conn). k.talk) (w.conns c)) }
 {}

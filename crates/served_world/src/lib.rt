@@ -5,5 +5,8 @@
 mod laws;
 mod reads;
 
-pub use laws::{every_run_is_served, link_has_what_was_sent, nothing_sent_unasked, one_run};
+pub use laws::{
+    every_run_is_served, link_has_what_was_sent, nothing_sent_unasked, one_run,
+    uploads_are_on_connections, whole_requests_are_answered,
+};
 pub use reads::Requests;
