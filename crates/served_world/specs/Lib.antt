@@ -1,0 +1,4 @@
+pub mod Replies
+pub mod World
+pub mod Served
+pub mod Laws
