@@ -1,0 +1,11 @@
+pub mod Keywords
+pub mod Cuts
+pub mod Pieces
+pub mod Numerals
+pub mod Pieced
+pub mod Lines
+pub mod Order
+pub mod Pushes
+pub mod Fronts
+pub mod Limits
+pub mod Ends
