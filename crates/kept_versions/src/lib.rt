@@ -1,0 +1,6 @@
+//! The versions of a store in memory.
+#![tactic(auto)]
+
+mod versions;
+
+pub use versions::Versions;
