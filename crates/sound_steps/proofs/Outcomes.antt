@@ -44,7 +44,7 @@ module _ {C : Type 0} where
 
   recorded : (M : State C) (t : ℕ) (o : Option (ChangeOf C)) → M.kept ≤ t → IsSound M → Applies M o → IsSound (with_change (at_moment M t) t o)
   recorded M t None later sound applies = moved M t later sound
-  recorded M t (Some ch) later sound applies = record_sound (at_moment M t) t ch (moved M t later sound) (moved_applies M t ch ∙ applies.0) applies.1 (λ first. absurd (false≢true (sym applies.2 ∙ first)))
+  recorded M t (Some ch) later sound applies = record_sound (at_moment M t) t ch (moved M t later sound) (moved_applies M t ch ∙ applies.0) applies.1
 
   outcome_sound : (M : State C) (t : ℕ) (words : List ℕ) (p : Plan C) (o : Option Fault) → M.kept ≤ t → IsSound M → (o ≡ None → Applies M p.change) → (o ≡ None → Gives M p.grant p.change) → IsSound (outcome_or_refusal M t words p o).state
   outcome_sound M t words p (Some fault) later sound applies gives = moved M t later sound
@@ -117,7 +117,7 @@ module _ {C : Type 0} where
   -- ---- steps
 
   pub with_pass_sound : (M : State C) (t : ℕ) → IsSound M → IsSound (with_pass M t)
-  with_pass_sound M t sound = record_sound M t change.Pass sound refl tt (λ first. absurd (false≢true first))
+  with_pass_sound M t sound = record_sound M t change.Pass sound refl tt
 
   either : (P : State C → Type 0) (b : Bool) (M N : State C) → P M → P N → P (if b then M else N)
   either P true M N first second = first
@@ -154,7 +154,7 @@ module _ {C : Type 0} where
   opened : (M : State C) (t : ℕ) → IsSound M → IsSound (with_restart (at_kept M) t)
   opened M t sound =
       let next : nat_lt M.boot (M.boot + 1) ≡ true = grind (arith, nat_tests) in
-      record_sound (at_kept M) t (change.Boot (M.boot + 1)) (record { buckets = sound.buckets; versions = sound.versions; keys = sound.keys; tokens = sound.tokens; flights = sound.flights; moments = omega arith }) next tt (λ first. absurd (false≢true first))
+      record_sound (at_kept M) t (change.Boot (M.boot + 1)) (record { buckets = sound.buckets; versions = sound.versions; keys = sound.keys; tokens = sound.tokens; flights = sound.flights; moments = omega arith }) next tt
 
   after_sound : (K : Pieces C) (P : Progress C) (s : Step C) → IsSound P.state → IsFitStep s → IsSound (state_after K P s).state
   after_sound K P (asks reading token c) sound fit =
