@@ -9,3 +9,4 @@ pub mod Pushes
 pub mod Fronts
 pub mod Limits
 pub mod Ends
+pub mod Shows

@@ -73,3 +73,62 @@ impl Script {
         Ok(())
     }
 }
+
+// The same event.
+fn copy_of(alloc: Global, event: &Event) -> Result<Event, Memory>
+    ensures { IfOk result (λ e. e ≡ event.now) }
+{
+    Ok(match event {
+        Event::Open(conn) => Event::Open(*conn),
+        Event::Piece(conn, bytes) => Event::Piece(*conn, Blob::copy(alloc, bytes.get())?),
+        Event::Ready(conn) => Event::Ready(*conn),
+        Event::Gone(conn) => Event::Gone(*conn),
+        Event::Stop => Event::Stop,
+    })
+}
+
+impl Script {
+    ghost use Rattle.outside_traits.specs.Lists.{clock_ahead, clock_last, words_ahead};
+    ghost use Rattle.outside_traits.specs.Memory.{link_ahead};
+    ghost use Rattle.event_script.specs.Script.{script_events, script_readings, script_words};
+    ghost use Rattle.event_script.specs.Shown.{IsFresh};
+
+    fn events(&self, alloc: Global) -> Result<Vec<Event>, Memory>
+        ensures { IfOk result (λ v. v.items ≡ script_events self.now) }
+    {
+        let mut events = Vec::with_capacity(alloc, self.timed.len())?;
+        'events: for timed in &self.timed {
+            events.push(copy_of(alloc, &timed.event)?)?;
+        }
+        Ok(events)
+    }
+
+    /// A link that gives the script's events, after which comes `Stop`. Each send takes all its bytes,
+    /// and fails for want of memory alone.
+    pub fn link(&self, alloc: Global) -> Result<ScriptLink, Memory>
+        ensures events { IfOk result (λ l. link_ahead l ≡ script_events self.now) }
+        ensures fresh { IfOk result IsFresh }
+    {
+        let events = self.events(alloc)?;
+        Ok(MemLink::new(alloc, events, Vec::new(alloc), Vec::new(alloc)))
+    }
+
+    /// A clock that gives the reading at each event, for a server that reads it once at each.
+    pub fn clock(&self, alloc: Global) -> Result<ScriptClock, Memory>
+        ensures readings { IfOk result (λ c. clock_ahead c ≡ script_readings self.now) }
+        ensures last { IfOk result (λ c. clock_last c ≡ 0) }
+    {
+        let mut readings = Vec::with_capacity(alloc, self.timed.len())?;
+        'readings: for timed in &self.timed {
+            readings.push(timed.reading)?;
+        }
+        Ok(ListClock::new(readings))
+    }
+
+    /// A giver of the script's random words, and then of zeros.
+    pub fn words(&self, alloc: Global) -> Result<ScriptWords, Memory>
+        ensures { IfOk result (λ w. words_ahead w ≡ script_words self.now) }
+    {
+        Ok(ListWords::new(self.words.to_vec(alloc)?))
+    }
+}
