@@ -15,3 +15,6 @@ pub use line::Said;
 pub use read::read_script;
 pub use script::{Script, ScriptClock, ScriptFault, ScriptLink, ScriptWords, Timed};
 pub use shown::write_sent;
+
+#[cfg(test)]
+mod tests;
