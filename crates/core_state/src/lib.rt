@@ -1,0 +1,9 @@
+//! The whole state of a store in memory, which clauses see as the state of the version machine.
+#![tactic(auto)]
+
+mod keys;
+mod parts;
+mod state;
+mod taken;
+
+pub use state::Core;
