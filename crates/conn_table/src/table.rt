@@ -5,6 +5,7 @@ ghost use Rattle.std.specs.Option.{is_some, option_copied};
 ghost use Rattle.b2_base.specs.Failure.{IfFault, UnlessFault};
 ghost use Rattle.conn_talk.specs.declared.pending.Pending.{Pending as TheReply};
 ghost use Rattle.conn_talk.specs.Talk.{Talk, first_talk, TakesPiece, shown, size_of, with_sent, given_back, talk_after, asks_stay, is_uploading};
+ghost use Rattle.conn_table.specs.Ends.{closes};
 ghost use Rattle.conn_table.specs.Table.{conn_at, count_of, pending_at, IsTalk, KeepsOthers};
 
 use crate::conn::Conn;
@@ -125,6 +126,8 @@ impl<B: Drop> Conns<B> {
         ensures talk { (a : Talk B) (p : TheReply B) → IsTalk self.old c (Some a)
             → a.reply ≡ Some p → IsTalk self.new c (talk_after a (with_sent n p)) }
         ensures others { KeepsOthers c self.old self.new }
+        ensures count { count_of self.new + (if closes result then 1 else 0)
+            ≡ count_of self.old }
     {
         let Some(conn) = self.conns.get_mut(&c.get()) else {
             return None;

@@ -6,3 +6,5 @@ pub mod Silent
 pub mod Once
 pub mod Flights
 pub mod Whole
+pub mod Cuts
+pub mod Whenever

@@ -8,11 +8,11 @@ use Rattle.b2_model.specs.Run.{asks, begins, ends}
 use Rattle.http_edge.specs.declared.head.Head.{Head}
 use Rattle.http_edge.specs.Length.{is_upload}
 use Rattle.conn_talk.specs.declared.pending.Pending.{Pending}
-use Rattle.conn_talk.specs.Asked.{Asked, nothing, refused, begun, complete, IsAsked, is_begun, with_more}
+use Rattle.conn_talk.specs.Asked.{Asked, nothing, refused, begun, complete, IsAsked, is_begun}
 use Rattle.conn_talk.specs.Talk.{next_talk, shown_as, with_sent, is_whole}
 use Rattle.conn_talk.proofs.Once.{one_asked}
 use Rattle.served_world.specs.Replies.{Reads, Reply, Outcome, made, Begins, Ends, Asks, BeginsOnce, EndsUnrefused, IsCarriedOut, Makes}
-use Rattle.served_world.specs.World.{Turn, Conn, World, with_conn, opened, nothing_made, after_piece, IsPiece, gone, handed, conn_after, GoesOn, IsAfterSend, IsSent, IsReady, Happens, Run}
+use Rattle.served_world.specs.World.{Turn, Conn, World, with_conn, opened, nothing_made, conn_held, after_piece, IsPiece, gone, handed, conn_after, GoesOn, IsAfterSend, IsSent, IsReady, Happens, Run}
 use Rattle.served_world.specs.Laws.{AreOne}
 
 module _ (R : Reads) (one : AreOne R) where
@@ -53,10 +53,10 @@ module _ (R : Reads) (one : AreOne R) where
 
   abbrev Reading : ℕ → World → ℕ → Conn → List ℕ → World → Type 0
   Reading reading w c k bytes x =
-      (new : Asked) × (o : Outcome) × IsAsked k.talk.before (k.talk.got ++ bytes) new × Makes R reading c k.talk.told new (nothing_made w) o × (x ≡ after_piece w c k (k.talk.got ++ bytes) new o)
+      (new : Asked) × (o : Outcome) × IsAsked k.talk.before (k.talk.got ++ bytes) new × Makes R reading c k.talk.told new (nothing_made w) o × (x ≡ after_piece w c k bytes new o)
 
   abbrev Holding : World → ℕ → Conn → List ℕ → World → Type 0
-  Holding w c k bytes x = x ≡ with_conn w c (Some (record k { talk = record k.talk { told = with_more k.talk.told bytes } }))
+  Holding w c k bytes x = x ≡ with_conn w c (Some (conn_held k bytes))
 
   one_piece : (reading : ℕ) (w : World) (c : ℕ) (k : Conn) (bytes : List ℕ) (u v : World) → IsPiece R reading w c k bytes u → IsPiece R reading w c k bytes v → u ≡ v
   one_piece reading w c k bytes u v is too = by k.talk.reply is too
@@ -66,7 +66,7 @@ module _ (R : Reads) (one : AreOne R) where
       by None (new, o, asked, makes, a) (other, p, also, likewise, b) =
           let same : new ≡ other = one_asked k.talk.before (k.talk.got ++ bytes) new other asked also in
           let outcomes : o ≡ p = made_once reading c k.talk.told new (nothing_made w) o p makes (subst (λ (n : Asked). Makes R reading c k.talk.told n (nothing_made w) p) (sym same) likewise) in
-          a ∙ (λ i. after_piece w c k (k.talk.got ++ bytes) (same i) (outcomes i)) ∙ sym b
+          a ∙ (λ i. after_piece w c k bytes (same i) (outcomes i)) ∙ sym b
 
   after_once : (reading : ℕ) (w : World) (c : ℕ) (k : Conn) (p : Pending (List ℕ)) (whole : Bool) (u v : World) → IsAfterSend R reading w c k p whole u → IsAfterSend R reading w c k p whole v → u ≡ v
   after_once reading w c k p false u v is too = is ∙ sym too

@@ -10,11 +10,11 @@ use Rattle.outside_traits.specs.declared.link.Event.TheVariants as event
 use Rattle.b2_model.specs.State.{State}
 use Rattle.b2_model.specs.Run.{Step, loses, Progress, step, of_bytes}
 use Rattle.conn_talk.specs.declared.pending.Pending.{Pending}
-use Rattle.conn_talk.specs.Asked.{Asked, IsAsked, with_more}
+use Rattle.conn_talk.specs.Asked.{Asked, IsAsked}
 use Rattle.conn_talk.specs.Talk.{next_talk, shown_as, size_of, with_sent, is_whole, is_uploading}
 use Rattle.served_world.specs.Replies.{Reads, Reply, text_of, Outcome, Makes}
-use Rattle.served_world.specs.World.{Turn, Conn, Answered, World, at_start, start, with_conn, closing, new_conn, opened, pending_of, answered_of, nothing_made, after_piece, IsPiece, closed, with_loss, gone, handed, with_send, conn_after, GoesOn, IsAfterSend, IsSent, IsReady, Happens, Run}
-use Rattle.served_world.specs.Served.{Exchange, exchanges, AreReplies, reply_on, replies_on, SendsFront, IsServed}
+use Rattle.served_world.specs.World.{Turn, Conn, Answered, World, at_start, start, with_conn, closing, new_conn, opened, pending_of, answered_of, nothing_made, conn_read, conn_held, after_piece, IsPiece, closed, with_loss, gone, handed, with_send, conn_after, GoesOn, IsAfterSend, IsSent, IsReady, Happens, Run}
+use Rattle.served_world.specs.Served.{Exchange, exchanges, AreReplies, reply_on, replies_on, SendsFront}
 use Rattle.served_world.proofs.Made.{exchanges_more, replies_more, IsMine, Answers, request_of, makes_answered}
 use Rattle.served_world.proofs.Conns.{got_before, got_last, front_left, changed, one_reply, no_reply, left_of, no_body, IsOpen, AreConns, at_number, replies_come, goes_on, ends_here}
 
@@ -57,10 +57,11 @@ module _ (R : Reads) (M : State (List ℕ)) (words : List ℕ) where
 
   -- ---- Piece
 
-  read_stands : (reading : ℕ) (w : World) (c : ℕ) (k : Conn) (got : List ℕ) (new : Asked) (o : Outcome) → Stands w → IsAt w c k → k.talk.reply ≡ None → IsAsked k.talk.before got new
-      → Makes R reading c k.talk.told new (nothing_made w) o → Stands (after_piece w c k got new o)
-  read_stands reading w c k got new o (kept, conns) here none asked makes =
+  read_stands : (reading : ℕ) (w : World) (c : ℕ) (k : Conn) (bytes : List ℕ) (new : Asked) (o : Outcome) → Stands w → IsAt w c k → k.talk.reply ≡ None → IsAsked k.talk.before (k.talk.got ++ bytes) new
+      → Makes R reading c k.talk.told new (nothing_made w) o → Stands (after_piece w c k bytes new o)
+  read_stands reading w c k bytes new o (kept, conns) here none asked makes =
       let P = at_start M words in
+      let got = k.talk.got ++ bytes in
       let first : Answers R P (request_of k c got) w.steps (nothing_made w) = record { mine = []; machine = kept.machine_is; brings = sym (append-nil (exchanges P w.steps)); is = refl } in
       let all = makes_answered R P w.steps reading c k got k.talk.told new (nothing_made w) o asked first refl makes in
       let more = answered_of k c got o.reply in
@@ -69,7 +70,7 @@ module _ (R : Reads) (M : State (List ℕ)) (words : List ℕ) where
           machine_is = all.machine;
           replies = subst (AreReplies R (w.answered ++ more)) (sym all.brings) (kept_more R k c got w.answered (exchanges P w.steps) o.reply all.mine all.is kept.replies);
         },
-        replies_come w.opened w.answered more w.conns w.ended c (record k { talk = record k.talk { got = got; told = new; reply = option_map pending_of o.reply } }) conns
+        replies_come w.opened w.answered more w.conns w.ended c (conn_read k bytes new o) conns
             (record { named = here.named; sent = left_came k c got w.answered old o.reply; plain = plain_came o.reply })
             (others_none k c got o.reply),
       )
@@ -79,14 +80,14 @@ module _ (R : Reads) (M : State (List ℕ)) (words : List ℕ) where
     where
       by_reply : (x : Option (Pending (List ℕ))) → k.talk.reply ≡ x
           → MatchOption x
-          ((new : Asked) × (o : Outcome) × IsAsked k.talk.before (k.talk.got ++ bytes) new × Makes R reading c k.talk.told new (nothing_made w) o × (v ≡ after_piece w c k (k.talk.got ++ bytes) new o))
-          (λ _. v ≡ with_conn w c (Some (record k { talk = record k.talk { told = with_more k.talk.told bytes } })))
+          ((new : Asked) × (o : Outcome) × IsAsked k.talk.before (k.talk.got ++ bytes) new × Makes R reading c k.talk.told new (nothing_made w) o × (v ≡ after_piece w c k bytes new o))
+          (λ _. v ≡ with_conn w c (Some (conn_held k bytes)))
           → Stands v
-      by_reply None none (new, o, asked, makes, same) = subst Stands (sym same) (read_stands reading w c k (k.talk.got ++ bytes) new o stands here none asked makes)
+      by_reply None none (new, o, asked, makes, same) = subst Stands (sym same) (read_stands reading w c k bytes new o stands here none asked makes)
       by_reply (Some p) some same =
           subst Stands (sym same) (
             stands.0,
-            goes_on w.opened w.answered w.conns w.ended c (record k { talk = record k.talk { told = with_more k.talk.told bytes } }) stands.1 (record { named = here.named; sent = here.sent; plain = here.plain }),
+            goes_on w.opened w.answered w.conns w.ended c (conn_held k bytes) stands.1 (record { named = here.named; sent = here.sent; plain = here.plain }),
           )
 
   -- ---- Gone
@@ -207,16 +208,6 @@ module _ (R : Reads) (M : State (List ℕ)) (words : List ℕ) where
   run_stands [] w v stands same = subst Stands (sym same) stands
   run_stands (t ∷ turns) w v stands (m, happens, rest) = run_stands turns m v (event_stands t.reading t.took w t.event m stands happens) rest
 
-  each_front : (w : World) (c : ℕ) (x : Option Conn) → MatchOption x ⊤ (IsOpen w.opened w.answered c) → MatchOption x ⊤ (SendsFront w.answered)
+  pub each_front : (w : World) (c : ℕ) (x : Option Conn) → MatchOption x ⊤ (IsOpen w.opened w.answered c) → MatchOption x ⊤ (SendsFront w.answered)
   each_front w c None is = tt
   each_front w c (Some k) is = (left_of k.talk.reply, is.sent)
-
-  pub served : (turns : List Turn) (w : World) → Run R (start M words) turns w → IsServed R M words w
-  served turns w ran =
-      let stands = run_stands turns (start M words) w start_stands ran in
-      record {
-        machine = stands.0.machine_is;
-        replies = stands.0.replies;
-        sent = λ c. each_front w c (w.conns c) (stands.1.each c);
-        sent_before = stands.1.before;
-      }

@@ -1,5 +1,5 @@
 -- What the link has of a number is what was sent on its connections.
-use Rattle.std.proofs.Common.{◌≡◌, ℕ, ◌+◌, nat_eq, nat_lt, Bool, true, false, cond, List, [], ◌∷◌, ◌++◌, zero, suc, length, take, Option, Some, None, option_map, MatchOption, refl, sym, ap, ◌∙◌, subst, append_assoc, append-nil}
+use Rattle.std.proofs.Common.{◌≡◌, ℕ, ◌+◌, nat_eq, nat_lt, Bool, true, false, cond, List, [], ◌∷◌, ◌++◌, zero, suc, length, take, Option, Some, None, MatchOption, refl, sym, ap, ◌∙◌, subst, append_assoc, append-nil}
 use Rattle.std.specs.Map.{update}
 use Rattle.std.specs.List.{flat_map}
 use Rattle.std.proofs.lemmas.Bool.{eqb-true}
@@ -9,10 +9,10 @@ use Rattle.outside_traits.specs.declared.link.Event.TheVariants as event
 use Rattle.outside_traits.specs.Links.{front_sent}
 use Rattle.b2_model.specs.State.{State}
 use Rattle.conn_talk.specs.declared.pending.Pending.{Pending}
-use Rattle.conn_talk.specs.Asked.{Asked, IsAsked, with_more}
+use Rattle.conn_talk.specs.Asked.{Asked, IsAsked}
 use Rattle.conn_talk.specs.Talk.{next_talk, shown_as, with_sent, is_whole, is_uploading}
 use Rattle.served_world.specs.Replies.{Reads, Outcome, Makes}
-use Rattle.served_world.specs.World.{Turn, Conn, Ended, World, start, with_conn, closing, new_conn, opened, pending_of, nothing_made, after_piece, IsPiece, closed, with_loss, gone, handed, is_last, with_send, conn_after, GoesOn, IsAfterSend, IsSent, IsReady, Happens, Run}
+use Rattle.served_world.specs.World.{Turn, Conn, Ended, World, start, with_conn, closing, new_conn, opened, nothing_made, conn_read, conn_held, after_piece, IsPiece, closed, with_loss, gone, handed, is_last, with_send, conn_after, GoesOn, IsAfterSend, IsSent, IsReady, Happens, Run}
 use Rattle.served_world.specs.Served.{bytes_on, ended_on, now_on, IsShown}
 
 -- the same, where this was sent on the connection of this number
@@ -94,11 +94,11 @@ module _ (R : Reads) where
     where
       by : (x : Option (Pending (List ℕ)))
           → MatchOption x
-          ((new : Asked) × (o : Outcome) × IsAsked k.talk.before (k.talk.got ++ bytes) new × Makes R reading c k.talk.told new (nothing_made w) o × (v ≡ after_piece w c k (k.talk.got ++ bytes) new o))
-          (λ _. v ≡ with_conn w c (Some (record k { talk = record k.talk { told = with_more k.talk.told bytes } })))
+          ((new : Asked) × (o : Outcome) × IsAsked k.talk.before (k.talk.got ++ bytes) new × Makes R reading c k.talk.told new (nothing_made w) o × (v ≡ after_piece w c k bytes new o))
+          (λ _. v ≡ with_conn w c (Some (conn_held k bytes)))
           → IsShown v
-      by None (new, o, asked, makes, same) = subst IsShown (sym same) (set_shown w c (record k { talk = record k.talk { got = k.talk.got ++ bytes; told = new; reply = option_map pending_of o.reply } }) shown)
-      by (Some p) same = subst IsShown (sym same) (set_shown w c (record k { talk = record k.talk { told = with_more k.talk.told bytes } }) shown)
+      by None (new, o, asked, makes, same) = subst IsShown (sym same) (set_shown w c (conn_read k bytes new o) shown)
+      by (Some p) same = subst IsShown (sym same) (set_shown w c (conn_held k bytes) shown)
 
   after_shown : (reading : ℕ) (w : World) (c : ℕ) (k : Conn) (p : Pending (List ℕ)) (whole : Bool) (v : World) → ShownWith w c k.sent → IsAfterSend R reading w c k p whole v → IsShown v
   after_shown reading w c k p false v shown is = subst IsShown (sym is) (set_shown w c k shown)

@@ -9,15 +9,15 @@ use Rattle.b2_types.specs.declared.key.Flight.{Flight}
 use Rattle.b2_types.specs.declared.answer.AnswerOf.{AnswerOf}
 use Rattle.b2_model.specs.Body.{body_of}
 use Rattle.b2_model.specs.State.{State}
-use Rattle.b2_model.specs.Run.{asks, begins, ends, loses, answer_to, step, of_bytes}
+use Rattle.b2_model.specs.Run.{Step, Progress, asks, begins, ends, loses, answer_to, step, of_bytes}
 use Rattle.http_edge.specs.declared.head.Head.{Head}
 use Rattle.http_edge.specs.Length.{is_upload}
 use Rattle.conn_talk.specs.declared.pending.Pending.{Pending}
-use Rattle.conn_talk.specs.Asked.{Asked, nothing, refused, begun, complete, IsAsked, is_begun, with_more}
+use Rattle.conn_talk.specs.Asked.{Asked, nothing, refused, begun, complete, IsAsked, is_begun}
 use Rattle.conn_talk.specs.Talk.{Talk, next_talk, shown_as, with_sent, is_whole, is_uploading}
 use Rattle.conn_talk.proofs.Once.{open_upload, Follows, follows}
 use Rattle.served_world.specs.Replies.{Reads, Reply, told, Outcome, made, Begins, Ends, BeginsOnce, EndsUnrefused, IsCarriedOut, Makes}
-use Rattle.served_world.specs.World.{Turn, Conn, World, start, with_conn, closing, new_conn, opened, pending_of, nothing_made, after_piece, IsPiece, closed, with_loss, gone, handed, conn_after, GoesOn, IsAfterSend, IsSent, IsReady, Happens, Run}
+use Rattle.served_world.specs.World.{Turn, Conn, World, start, with_conn, closing, new_conn, opened, pending_of, nothing_made, conn_read, conn_held, after_piece, IsPiece, closed, with_loss, gone, handed, conn_after, GoesOn, IsAfterSend, IsSent, IsReady, Happens, Run}
 use Rattle.served_world.specs.Laws.{IsComing, IsUnfinished}
 use Rattle.served_world.proofs.Conns.{changed}
 use Rattle.served_world.proofs.Flights.{under_way, flights_of, asked_flights, began, ended, lost}
@@ -181,10 +181,10 @@ OthersFit w c = (d : ℕ) → (c ≡ d → ⊥) → IsFit (flights_of w.machine)
 set_fit : (w : World) (c : ℕ) (x : Option Conn) → OthersFit w c → IsFit (flights_of w.machine) c x → AllFit (with_conn w c x)
 set_fit w c x others here = changed (IsFit (flights_of w.machine)) w.conns c x here others
 
-talking_now : (k : Conn) (got : List ℕ) (new : Asked) (x : Option Reply) → IsAsked k.talk.before got new → MatchOption x (IsComing new) (λ _. ⊤)
-    → IsTalking (Some (record k { talk = record k.talk { got = got; told = new; reply = option_map pending_of x } }))
-talking_now k got new None asked coming = inr (asked, coming)
-talking_now k got new (Some r) asked coming = tt
+talking_now : (k : Conn) (bytes : List ℕ) (new : Asked) (machine : Progress (List ℕ)) (steps : List (Step (List ℕ))) (x : Option Reply) → IsAsked k.talk.before (k.talk.got ++ bytes) new → MatchOption x (IsComing new) (λ _. ⊤)
+    → IsTalking (Some (conn_read k bytes new (record { machine = machine; steps = steps; reply = x })))
+talking_now k bytes new machine steps None asked coming = inr (asked, coming)
+talking_now k bytes new machine steps (Some r) asked coming = tt
 
 -- one with a reply has no upload under way
 idle : (flights : List Flight) (c : ℕ) (k : Conn) (p : Pending (List ℕ)) → k.talk.reply ≡ Some p → under_way flights c ≡ uploads_at (Some k) → under_way flights c ≡ false
@@ -199,22 +199,22 @@ module _ (R : Reads) where
       → (k.talk.reply ≡ None → IsToBeRead k.talk) → IsPiece R reading w c k bytes v → AllFit v
   piece_fit reading w c k bytes v others here waits is = by k.talk.reply refl is
     where
-      read : (new : Asked) (o : Outcome) → k.talk.reply ≡ None → IsAsked k.talk.before (k.talk.got ++ bytes) new → Makes R reading c k.talk.told new (nothing_made w) o → AllFit (after_piece w c k (k.talk.got ++ bytes) new o)
+      read : (new : Asked) (o : Outcome) → k.talk.reply ≡ None → IsAsked k.talk.before (k.talk.got ++ bytes) new → Makes R reading c k.talk.told new (nothing_made w) o → AllFit (after_piece w c k bytes new o)
       read new o none asked makes =
           let busy : under_way (flights_of w.machine) c ≡ is_begun k.talk.told = here ∙ ap (λ y. is_begun k.talk.told && is_none y) none ∙ and_true (is_begun k.talk.told) in
           let fits = makes_fits R reading c k.talk.before (k.talk.got ++ bytes) k.talk.told new (nothing_made w) o asked busy refl (waiting_stays k.talk bytes new (waits none) asked) makes in
-          changed (IsFit (flights_of o.machine)) w.conns c (Some (record k { talk = record k.talk { got = k.talk.got ++ bytes; told = new; reply = option_map pending_of o.reply } }))
-          (fits.here ∙ ap (λ t. is_begun new && t) (pending_none o.reply), talking_now k (k.talk.got ++ bytes) new o.reply asked fits.replied)
+          changed (IsFit (flights_of o.machine)) w.conns c (Some (conn_read k bytes new o))
+          (fits.here ∙ ap (λ t. is_begun new && t) (pending_none o.reply), talking_now k bytes new o.machine o.steps o.reply asked fits.replied)
           (λ d apart. (fits.others d apart ∙ (others d apart).0, (others d apart).1))
 
       by : (x : Option (Pending (List ℕ))) → k.talk.reply ≡ x
           → MatchOption x
-          ((new : Asked) × (o : Outcome) × IsAsked k.talk.before (k.talk.got ++ bytes) new × Makes R reading c k.talk.told new (nothing_made w) o × (v ≡ after_piece w c k (k.talk.got ++ bytes) new o))
-          (λ _. v ≡ with_conn w c (Some (record k { talk = record k.talk { told = with_more k.talk.told bytes } })))
+          ((new : Asked) × (o : Outcome) × IsAsked k.talk.before (k.talk.got ++ bytes) new × Makes R reading c k.talk.told new (nothing_made w) o × (v ≡ after_piece w c k bytes new o))
+          (λ _. v ≡ with_conn w c (Some (conn_held k bytes)))
           → AllFit v
       by None none (new, o, asked, makes, same) = subst AllFit (sym same) (read new o none asked makes)
       by (Some p) some same =
-          let j : Conn = record k { talk = record k.talk { told = with_more k.talk.told bytes } } in
+          let j : Conn = conn_held k bytes in
           subst AllFit (sym same) (set_fit w c (Some j) others (with_reply (flights_of w.machine) c j p some (idle (flights_of w.machine) c k p some here)))
 
   -- ---- Gone

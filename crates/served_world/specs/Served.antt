@@ -1,5 +1,5 @@
 -- What holds of everything that a server sends and does, whatever the events were.
-use Rattle.std.specs.Prelude.{◌≡◌, ℕ, ◌==◌, Bool, true, false, List, [], ◌∷◌, ◌++◌, Option, Some, None, MatchOption, if◌then◌else◌, ⊤}
+use Rattle.std.specs.Prelude.{◌≡◌, ℕ, ◌+◌, ◌==◌, filter, Bool, true, false, List, [], ◌∷◌, ◌++◌, Option, Some, None, MatchOption, if◌then◌else◌, ⊤}
 use Rattle.std.specs.List.{flat_map, AllByRecursion}
 use Rattle.outside_traits.specs.declared.link.SentPiece.{SentPiece}
 use Rattle.b2_types.specs.declared.answer.AnswerOf.{AnswerOf}
@@ -10,7 +10,7 @@ use Rattle.b2_model.specs.Body.{Body, body_of}
 use Rattle.b2_model.specs.Run.{Step, asks, begins, ends, loses, passes, restarts, Progress, answer_to, step, run, of_bytes}
 use Rattle.http_edge.specs.declared.head.Head.{Head}
 use Rattle.http_edge.specs.Length.{is_upload}
-use Rattle.conn_talk.specs.Asked.{Asked, nothing, refused, begun, complete, IsAsked}
+use Rattle.conn_talk.specs.Asked.{Asked, nothing, refused, begun, complete, IsAsked, rest_of, with_more}
 use Rattle.served_world.specs.Replies.{Reads, Reply, form, told, text_of}
 use Rattle.served_world.specs.World.{Conn, Ended, Answered, World, at_start}
 
@@ -90,6 +90,19 @@ abbrev pub AreReplies : Reads → List Answered → List Exchange → Type 0
 AreReplies R [] all = all ≡ []
 AreReplies R (r ∷ rs) all = (mine : List Exchange) × (more : List Exchange) × (all ≡ mine ++ more) × IsReplyTo R r r.reply mine × AreReplies R rs more
 
+-- ---- the requests of a connection
+
+abbrev pub requests_of : ℕ → List Answered → List Answered
+requests_of name rs = filter (λ r. r.name == name) rs
+
+-- The requests stand one after the other in the bytes, and so many stood before the first: each has its bytes at
+-- the front, and the next one begins behind what they ask for.
+abbrev pub AreCut : ℕ → List ℕ → List Answered → Type 0
+AreCut before bytes [] = ⊤
+AreCut before bytes (r ∷ rs) =
+    (r.before ≡ before) × (asked : Asked) × (more : List ℕ) × IsAsked before r.got asked × (r.got ++ more ≡ bytes)
+    × AreCut (before + 1) (rest_of (with_more asked more)) rs
+
 -- ---- what is sent
 
 -- the reply, where it is one of the connection of this name
@@ -107,12 +120,18 @@ IsFront xs ys = (rest : List ℕ) × (xs ++ rest ≡ ys)
 abbrev pub SendsFront : List Answered → Conn → Type 0
 SendsFront rs k = IsFront k.sent (replies_on k.name rs)
 
+-- its requests are those of the bytes that came on it
+abbrev pub AsksInOrder : List Answered → Conn → Type 0
+AsksInOrder rs k = AreCut 0 k.came (requests_of k.name rs)
+
 -- the statement, which knows nothing of events
 pub record IsServed (R : Reads) (M : State (List ℕ)) (words : List ℕ) (w : World) : Type 0 where
   pub machine : w.machine ≡ run of_bytes M words w.steps
   pub replies : AreReplies R w.answered (exchanges (at_start M words) w.steps)
   pub sent : (c : ℕ) → MatchOption (w.conns c) ⊤ (SendsFront w.answered)
   pub sent_before : AllByRecursion (λ e. SendsFront w.answered e.conn) w.ended
+  pub asked : (c : ℕ) → MatchOption (w.conns c) ⊤ (AsksInOrder w.answered)
+  pub asked_before : AllByRecursion (λ e. AsksInOrder w.answered e.conn) w.ended
 
 -- ---- what the link has
 

@@ -20,10 +20,11 @@ pub record Turn : Type 0 where
   pub took : Option ℕ
 
 -- a connection: its name, which is its place among all that were opened; its request and the reply that is
--- pending; and all bytes that were sent on it
+-- pending; and all bytes that came and that were sent on it
 pub record Conn : Type 0 where
   pub name : ℕ
   pub talk : Talk (List ℕ)
+  pub came : List ℕ
   pub sent : List ℕ
 
 -- a connection that was closed or lost, and its number
@@ -86,7 +87,7 @@ closing c None = []
 closing c (Some n) = front_sent c [] true n ∷ []
 
 abbrev pub new_conn : ℕ → Conn
-new_conn name = record { name = name; talk = first_talk; sent = [] }
+new_conn name = record { name = name; talk = first_talk; came = []; sent = [] }
 
 abbrev pub opened : World → ℕ → Option ℕ → World
 opened w c took =
@@ -107,21 +108,31 @@ answered_of k c got (Some r) = record { name = k.name; number = c; before = k.ta
 abbrev pub nothing_made : World → Outcome
 nothing_made w = record { machine = w.machine; steps = w.steps; reply = None }
 
--- so many bytes came of the request, they ask for this, and this was made
-abbrev pub after_piece : World → ℕ → Conn → List ℕ → Asked → Outcome → World
-after_piece w c k got new o = record (with_conn w c (Some (record k { talk = record k.talk { got = got; told = new; reply = option_map pending_of o.reply } }))) {
-  machine = o.machine;
-  steps = o.steps;
-  answered = w.answered ++ answered_of k c got o.reply;
+-- these bytes came of its request, which asks for this now, and this was made
+abbrev pub conn_read : Conn → List ℕ → Asked → Outcome → Conn
+conn_read k bytes new o = record k {
+  talk = record k.talk { got = k.talk.got ++ bytes; told = new; reply = option_map pending_of o.reply };
+  came = k.came ++ bytes;
 }
 
--- bytes come of a request that has no reply; behind a reply that is pending they are held, or do nothing
+-- they came behind a reply that is pending: they are held, or do nothing
+abbrev pub conn_held : Conn → List ℕ → Conn
+conn_held k bytes = record k { talk = record k.talk { told = with_more k.talk.told bytes }; came = k.came ++ bytes }
+
+abbrev pub after_piece : World → ℕ → Conn → List ℕ → Asked → Outcome → World
+after_piece w c k bytes new o = record (with_conn w c (Some (conn_read k bytes new o))) {
+  machine = o.machine;
+  steps = o.steps;
+  answered = w.answered ++ answered_of k c (k.talk.got ++ bytes) o.reply;
+}
+
+-- bytes come of a request that has no reply, or behind a reply that is pending
 abbrev pub IsPiece : Reads → ℕ → World → ℕ → Conn → List ℕ → World → Type 0
 IsPiece R reading w c k bytes v =
     MatchOption k.talk.reply
     ((new : Asked) × (o : Outcome) × IsAsked k.talk.before (k.talk.got ++ bytes) new × Makes R reading c k.talk.told new (nothing_made w) o
-    × (v ≡ after_piece w c k (k.talk.got ++ bytes) new o))
-    (λ _. v ≡ with_conn w c (Some (record k { talk = record k.talk { told = with_more k.talk.told bytes } })))
+    × (v ≡ after_piece w c k bytes new o))
+    (λ _. v ≡ with_conn w c (Some (conn_held k bytes)))
 
 -- ---- Gone
 

@@ -1,4 +1,4 @@
-use Rattle.served_world.proofs.Runs.{served}
+use Rattle.served_world.proofs.Whenever.{served}
 use Rattle.served_world.proofs.laws.every_run_is_served.Goals as goal
 
 pub returns : goal.returns

@@ -1,4 +1,4 @@
-use Rattle.served_world.proofs.Runs.{served}
+use Rattle.served_world.proofs.Whenever.{served}
 use Rattle.served_world.proofs.Shown.{run_shown}
 use Rattle.served_world.proofs.Silent.{silent_at, link_silent}
 use Rattle.served_world.proofs.laws.nothing_sent_unasked.Goals as goal
