@@ -1,0 +1,4 @@
+pub mod Table
+pub mod Kinds
+pub mod Information
+pub mod Upload
