@@ -1,4 +1,5 @@
 pub mod Currents
+pub mod Few
 pub mod Gather
 pub mod InFolders
 pub mod Late

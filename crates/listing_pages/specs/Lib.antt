@@ -1,3 +1,4 @@
+pub mod Few
 pub mod NameRows
 pub mod Orders
 pub mod PageOf

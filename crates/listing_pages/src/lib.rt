@@ -19,3 +19,6 @@ pub use page::{Page, PageRow};
 pub use unfinished::{start_place, unfinished_page};
 pub use versions::versions_page;
 pub use visible::names_page;
+
+#[cfg(test)]
+mod tests;
