@@ -1,0 +1,4 @@
+use Rattle.bench_index.proofs.sought.Given as goal
+
+abbrev pub ghosts-seek : goal.ghosts-seek
+ghosts-seek a = record { name = a.blank.name; parts = a.blank.parts }
