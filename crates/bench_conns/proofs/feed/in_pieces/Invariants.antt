@@ -1,0 +1,5 @@
+use Rattle.bench_conns.specs.Sound.{IsSound}
+use Rattle.bench_conns.proofs.feed.in_pieces.Given as goal
+
+abbrev pub invariant-loop : goal.invariant-loop
+invariant-loop l = IsSound l.conns

@@ -1,0 +1,5 @@
+use Rattle.bench_conns.specs.Sound.{IsSound}
+use Rattle.bench_conns.proofs.feed.one.Given as goal
+
+abbrev pub invariant-loop-part : goal.invariant-loop-part
+invariant-loop-part l = IsSound l.conns
