@@ -21,7 +21,7 @@ FEW, MANY = 10_000, 1_000_000
 NAME = 30
 STORES = {"ours": [ours], "SQLite": [peer, "sqlite"], "std::map": [peer, "std"], "absl": [peer, "absl"]}
 # What is done, how often, and what one of it counts: the unit and how many there are in a second.
-ASKED = {"seek": (1_000_000, "ns", 1e9), "names": (1_000, "us", 1e6), "folders": (1_000, "us", 1e6), "versions": (1_000, "us", 1e6)}
+ASKED = {"seek": (1_000_000, "ns", 1e9), "names": (5_000, "us", 1e6), "folders": (5_000, "us", 1e6), "versions": (5_000, "us", 1e6)}
 
 def run(store, what, rows, times):
     """Seconds of the processor, peak resident bytes and what was printed."""
