@@ -1,8 +1,9 @@
 //! Tokens in headers and queries, and downloads.
 
-use crate::{download_by_id, download_token, first_param, token_of};
+use crate::{download_by_id, download_by_name, download_token, first_param, token_of};
 use b2_base::{Memory, Text};
 use b2_types::{Call, message_of};
+use call_paths::download_parts;
 use http_header::{HeaderMap, HeaderName, HeaderValue};
 use std::alloc::Global;
 use std::test::Fail;
@@ -96,6 +97,32 @@ fn downloads_by_id(rt: HostRuntime) -> Result<(), Fail> {
         let request = request(alloc, query, &[])?;
         let call = download_by_id(alloc, &request)?;
         assert_eq!(rt; message(alloc, call)?.get(), fault);
+    }
+    Ok(())
+}
+
+fn by_name(alloc: Global, request: &Request) -> Result<Text, Memory> {
+    let Some((_bucket, _name)) = download_parts(request.path.get().as_bytes()) else {
+        return Text::copy(alloc, "no path");
+    };
+    let call = download_by_name(alloc, request)?;
+    message(alloc, call)
+}
+
+#[test]
+fn downloads_by_name(rt: HostRuntime) -> Result<(), Fail> {
+    let alloc = rt.alloc();
+    let rows: [(&str, &str); 6] = [
+        ("/file/bucket/a+b%20c", ""),
+        ("/file//n", ""),
+        ("/file/bucket/", "bad field: fileName"),
+        ("/file/bucket/a%7F", "bad field: fileName"),
+        ("/file/bucket/%a", "bad field: fileName"),
+        ("/file/bucket", "no path"),
+    ];
+    for (path, fault) in rows {
+        let request = request_to(alloc, path, "", &[])?;
+        assert_eq!(rt; by_name(alloc, &request)?.get(), fault);
     }
     Ok(())
 }

@@ -9,3 +9,6 @@ mod text;
 mod upload;
 
 pub use upload::{read_file_upload, read_part_upload};
+
+#[cfg(test)]
+mod tests;
