@@ -1,6 +1,7 @@
 //! The whole state of a store in memory, which clauses see as the state of the version machine.
 #![tactic(auto)]
 
+mod changed;
 mod keys;
 mod parts;
 mod state;

@@ -12,8 +12,8 @@ use b2_base::Moment;
 use b2_types::{Version, VersionId};
 use std::alloc::Global;
 
-// Takes out the version, which is there.
-fn taken(alloc: Global, parts: &mut Parts, id: VersionId) -> Version
+/// Takes out the version, which is there.
+pub(crate) fn taken(alloc: Global, parts: &mut Parts, id: VersionId) -> Version
     requires there { IsSome (find (λ v. v.bucket == id.bucket && v.num == id.num) parts.old.versions) }
     ensures version { find (λ v. v.bucket == id.bucket && v.num == id.num) parts.old.versions ≡ Some result }
     ensures left { parts.new ≡ record parts.old {
