@@ -3,6 +3,7 @@
 
 mod changed;
 mod keys;
+mod made;
 mod parts;
 mod state;
 mod taken;
