@@ -35,4 +35,17 @@ impl Core {
         self.parts.kept = t;
         taken(alloc, &mut self.parts, id)
     }
+
+    /// Cancels the large file that was started, which is handed out with the extents of its parts.
+    pub fn cancel(&mut self, alloc: Global, t: Moment, id: VersionId) -> Version
+        requires applies { applies_change self.old (change.Cancel id) ≡ true }
+        ensures version { version_at self.old id.bucket id.num ≡ Some result }
+        ensures state { self.new ≡ after_record self.old
+            (record { at = t; change = change.Cancel id }) }
+    {
+        let parts = &mut self.parts;
+        parts.now = t;
+        parts.kept = t;
+        taken(alloc, parts, id)
+    }
 }

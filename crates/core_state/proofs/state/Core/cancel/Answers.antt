@@ -1,0 +1,10 @@
+use Rattle.std.proofs.Common.{◌≡◌, true, subst, sym, refl}
+use Rattle.b2_types.specs.declared.record.ChangeOf.TheVariants as change
+use Rattle.b2_model.specs.Stored.{applies_change}
+use Rattle.core_state.proofs.Whole.{gone}
+use Rattle.core_state.proofs.state.Core.cancel.Goals as goal
+
+pub invariant_of-self : goal.invariant_of-self
+invariant_of-self c =
+    (gone c.self.inside.parts c.taken.new.parts c.args.t (change.Cancel c.args.id) c.args.id c.self.invariant
+    (subst (λ M. applies_change M (change.Cancel c.args.id) ≡ true) (sym c.self.view_is) c.requires.applies) tt c.taken.ensures.left refl).whole
