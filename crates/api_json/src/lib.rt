@@ -16,6 +16,3 @@ mod to_json;
 
 pub use body::{json_body, refusal_body, write_answer};
 pub use credentials::{authorize_call, basic};
-
-#[cfg(test)]
-mod tests;

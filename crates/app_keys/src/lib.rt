@@ -15,6 +15,3 @@ pub use page::{KeyPage, keys_page};
 pub use refusal::{KeyRefusal, fault_of};
 pub use remove::keys_delete;
 pub use secret::{check_secret, has_hash, secret_text};
-
-#[cfg(test)]
-mod tests;

@@ -12,6 +12,3 @@ pub use grants::{Busy, Grants, SerialEnd, Terms};
 pub use held::Held;
 pub use laws::uploads_and_tokens;
 pub use text::token_text;
-
-#[cfg(test)]
-mod tests;

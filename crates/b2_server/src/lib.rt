@@ -11,6 +11,3 @@ mod store;
 
 pub use laws::one_output;
 pub use run::{Status, run_b2d};
-
-#[cfg(test)]
-mod tests;

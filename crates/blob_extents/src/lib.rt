@@ -9,6 +9,3 @@ mod states;
 pub use blobs::Blobs;
 pub use laws::{read_after_release, what_is_read};
 pub use states::{Kept, Pin, Sealed, Spent, Staging};
-
-#[cfg(test)]
-mod tests;

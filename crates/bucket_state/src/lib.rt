@@ -14,6 +14,3 @@ pub use list::buckets_list;
 pub use refusal::{BucketRefusal, fault_of};
 pub use remove::buckets_remove;
 pub use update::buckets_update;
-
-#[cfg(test)]
-mod tests;

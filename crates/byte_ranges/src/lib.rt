@@ -4,6 +4,3 @@
 mod read;
 
 pub use read::read_range;
-
-#[cfg(test)]
-mod tests;

@@ -9,6 +9,3 @@ mod listings;
 mod made;
 
 pub use call::{one_call, read_call};
-
-#[cfg(test)]
-mod tests;

@@ -10,6 +10,3 @@ pub use laws::{one_path, one_route, path_read_back};
 pub use read::{download_parts, read_path};
 pub use routes::{Route, route_of};
 pub use write::{write_download_path, write_name_path, write_part_path, write_upload_path};
-
-#[cfg(test)]
-mod tests;

@@ -13,6 +13,3 @@ pub use laws::copies_are_uploads;
 pub use part::{copy_part, may_copy_part};
 pub use refusal::{CopyRefusal, fault_of};
 pub use span::copy_span;
-
-#[cfg(test)]
-mod tests;

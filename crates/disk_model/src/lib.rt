@@ -15,6 +15,3 @@ pub use changes::{Change, Done};
 pub use disk::{Disk, DiskFault, write_durably};
 pub use flat::FlatDisk;
 pub use memory::MemDisk;
-
-#[cfg(test)]
-mod tests;

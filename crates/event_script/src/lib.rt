@@ -15,6 +15,3 @@ pub use line::Said;
 pub use read::read_script;
 pub use script::{Script, ScriptClock, ScriptFault, ScriptLink, ScriptWords, Timed};
 pub use shown::write_sent;
-
-#[cfg(test)]
-mod tests;

@@ -7,6 +7,3 @@ mod space;
 
 pub use laws::{extents_in_use, one_room, room_after_a_run, taken_and_back};
 pub use space::{AreaEnd, BLOCK, Space};
-
-#[cfg(test)]
-mod tests;

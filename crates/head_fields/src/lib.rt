@@ -8,6 +8,3 @@ mod token;
 pub use downloads::{download_by_id, download_by_name};
 pub use query::first_param;
 pub use token::{download_token, token_of};
-
-#[cfg(test)]
-mod tests;

@@ -77,7 +77,7 @@ fn most_body(name: CallName, headers: &HeaderMap<HeaderValue>) -> u64
 
 /// The bytes of the body of a request for the call, or none where the length is amiss (RFC 9112,
 /// section 6).
-pub(crate) fn body_length(name: CallName, headers: &HeaderMap<HeaderValue>) -> Option<u64>
+pub fn body_length(name: CallName, headers: &HeaderMap<HeaderValue>) -> Option<u64>
     ensures { MatchOption result (is_bad_length name headers.now ≡ true)
         (λ n. (is_bad_length name headers.now ≡ false) × (n ≡ told_length (lengths headers.now))) }
 {

@@ -13,9 +13,5 @@ mod stay;
 pub use cut::{Cut, MOST_HEAD, cut_as_it_comes, cut_head};
 pub use head::{Head, read_head};
 pub use laws::{one_received, one_request, received_as_it_comes};
+pub use length::body_length;
 pub use reply::reply_head;
-
-#[cfg(test)]
-mod head_tests;
-#[cfg(test)]
-mod reply_tests;

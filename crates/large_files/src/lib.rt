@@ -17,6 +17,3 @@ pub use refusal::{
     FinishFault, NotLarge, PartRefusal, fault_of_finish, fault_of_part, not_large_fault,
 };
 pub use start::start_large_file;
-
-#[cfg(test)]
-mod tests;

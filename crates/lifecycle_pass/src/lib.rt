@@ -9,6 +9,3 @@ mod rules;
 pub use laws::{other_names_stay, plan_is_the_pass, plans_are_the_pass};
 pub use plans::{Face, Plan, plan_name};
 pub use rules::{RuleFault, rules_ok};
-
-#[cfg(test)]
-mod tests;

@@ -19,6 +19,3 @@ pub use page::{Page, PageRow};
 pub use unfinished::{start_place, unfinished_page};
 pub use versions::versions_page;
 pub use visible::names_page;
-
-#[cfg(test)]
-mod tests;

@@ -19,6 +19,3 @@ pub use refusal::{LockRefusal, VersionRefusal, fault_of, lock_fault};
 pub use rules::{lock_rules, next_number};
 pub use terms::{VersionTerms, new_version};
 pub use uploads::{may_upload, upload};
-
-#[cfg(test)]
-mod tests;

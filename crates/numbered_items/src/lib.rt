@@ -5,6 +5,3 @@ mod kept;
 mod numbered;
 
 pub use numbered::{HasNumber, Numbered};
-
-#[cfg(test)]
-mod tests;

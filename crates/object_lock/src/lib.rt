@@ -9,6 +9,3 @@ mod rules;
 pub use default::{default_until, own_or_default};
 pub use delete::may_delete;
 pub use retention::may_set_retention;
-
-#[cfg(test)]
-mod tests;

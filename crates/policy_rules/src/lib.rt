@@ -14,6 +14,3 @@ pub use call::call_rule;
 pub use known::Known;
 pub use name::name_rule;
 pub use token::token_rule;
-
-#[cfg(test)]
-mod tests;

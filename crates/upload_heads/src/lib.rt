@@ -9,6 +9,3 @@ mod text;
 mod upload;
 
 pub use upload::{read_file_upload, read_part_upload};
-
-#[cfg(test)]
-mod tests;

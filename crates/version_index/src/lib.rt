@@ -10,6 +10,3 @@ pub use index::Index;
 pub use laws::{changed_in_place, one_order, others_stay, placed_among, same_spot};
 pub use spot::Spot;
 pub use steps::Steps;
-
-#[cfg(test)]
-mod tests;

@@ -1,0 +1,13 @@
+//! Tests of paths, heads, scripts and of whole runs of the server, by their public calls.
+#![tactic(auto)]
+
+#[cfg(test)]
+mod heads;
+#[cfg(test)]
+mod paths;
+#[cfg(test)]
+mod replay;
+#[cfg(test)]
+mod replies;
+#[cfg(test)]
+mod script;

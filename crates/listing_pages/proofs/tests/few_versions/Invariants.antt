@@ -1,5 +1,0 @@
-use Rattle.index_rows.specs.OwnRows.{AreOwn}
-use Rattle.listing_pages.proofs.tests.few_versions.Given as goal
-
-abbrev pub invariant-loop-name : goal.invariant-loop-name
-invariant-loop-name l = AreOwn l.index

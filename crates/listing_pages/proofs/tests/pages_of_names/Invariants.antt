@@ -1,4 +1,0 @@
-use Rattle.listing_pages.proofs.tests.pages_of_names.Given as goal
-
-abbrev pub ghosts-listed : goal.ghosts-listed
-ghosts-listed g a = record { name = a.blank.name; parts = a.blank.parts }

@@ -1,0 +1,4 @@
+use Rattle.storage_tests.proofs.pages.pages_of_names.Given as goal
+
+abbrev pub ghosts-listed : goal.ghosts-listed
+ghosts-listed g a = record { name = a.blank.name; parts = a.blank.parts }

@@ -1,0 +1,15 @@
+use Rattle.std.proofs.Common.{◌≡◌, subst, sym, ap, ◌∙◌, refl}
+use Rattle.version_index.specs.declared.spot.Spot.{Spot}
+use Rattle.index_rows.specs.OwnRows.{AreOwn}
+use Rattle.listing_pages.specs.Few.{spot_at}
+use Rattle.listing_pages.proofs.Sought.{own_placed}
+use Rattle.storage_tests.proofs.pages.put.Goals as goal
+
+pub returns : goal.returns
+returns c =
+    let spot : Spot = record { bucket = c.bucket.result; name = c.in_ok-place.place; num = c.args.num } in
+    let same : spot ≡ spot_at c.args.name.now c.args.num = rw (c.bucket.ensures, c.in_ok-place.ensures, c.as_bytes.ensures.value) refl in
+    subst AreOwn (sym c.in-Ok.ensures.ok) (own_placed c.args.index.now spot c.in_ok-version.version c.requires (same ∙ sym c.in_ok-version.ensures))
+
+pub returns-in-Err : goal.returns-in-Err
+returns-in-Err c = subst AreOwn (sym c.in-Err.ensures.err) c.requires

@@ -1,0 +1,15 @@
+//! Tests of the disk, of extents, of the index of versions and of its pages, by their public calls.
+#![tactic(auto)]
+
+#[cfg(test)]
+mod blobs;
+#[cfg(test)]
+mod disk;
+#[cfg(test)]
+mod index;
+#[cfg(test)]
+mod numbered;
+#[cfg(test)]
+mod pages;
+#[cfg(test)]
+mod space;

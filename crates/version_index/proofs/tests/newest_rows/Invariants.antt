@@ -1,4 +1,0 @@
-use Rattle.version_index.proofs.tests.newest_rows.Given as goal
-
-abbrev pub ghosts-newest : goal.ghosts-newest
-ghosts-newest g a = record { name = a.blank.name; parts = a.blank.parts }
