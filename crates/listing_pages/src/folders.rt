@@ -9,7 +9,7 @@ ghost use Rattle.listing_pages.specs.Places.{after_folder};
 use crate::ask::Ask;
 use crate::page::PageRow;
 use crate::places::past_folder;
-use b2_base::{Memory, Text};
+use b2_base::{BucketNum, Memory, Text};
 use name_rules::folder_of;
 use std::alloc::Global;
 use version_index::Spot;
@@ -42,19 +42,18 @@ pub(crate) fn folder_under<'a>(ask: &Ask, name: &'a str) -> Option<&'a str>
     folder_text(name, ask.prefix.get(), delimiter.get())
 }
 
-/// The row of the folder that the name is in.
-pub(crate) fn folder_turn(alloc: Global, ask: &Ask, name: &str) -> Result<Option<Turn>, Memory>
-    requires { IsDelimiter ask.now.delimiter }
-    ensures row { IfOk result (λ t. option_map (λ turn. turn.row) t
-        ≡ option_map shown.Folder (folder_of_name ask.now.prefix ask.now.delimiter name.now)) }
-    ensures next { IfOk result (λ t. option_map (λ turn. turn.next) t
-        ≡ option_map (after_folder ask.now.bucket)
-        (folder_of_name ask.now.prefix ask.now.delimiter name.now)) }
+/// The row of the folder. The place after it takes the memory of the one before.
+pub(crate) fn folder_turn(
+    alloc: Global,
+    bucket: BucketNum,
+    folder: &str,
+    place: Spot,
+) -> Result<Turn, Memory>
+    requires { 0 < length folder.now }
+    ensures row { IfOk result (λ t. t.row ≡ shown.Folder folder.now) }
+    ensures next { IfOk result (λ t. t.next ≡ after_folder bucket folder.now) }
 {
-    let Some(folder) = folder_under(ask, name) else {
-        return Ok(None);
-    };
-    let next = past_folder(alloc, ask.bucket, folder)?;
+    let next = past_folder(place, bucket, folder)?;
     let row = PageRow::Folder(Text::copy(alloc, folder)?);
-    Ok(Some(Turn { row, next }))
+    Ok(Turn { row, next })
 }

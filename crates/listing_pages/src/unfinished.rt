@@ -14,7 +14,7 @@ use b2_base::{Blob, BucketNum, LAST_VERSION, Memory, Text, VersionNum};
 use name_rules::{FileName, is_prefix};
 use std::alloc::Global;
 use std::sync::ledger::Ledger;
-use version_index::{Index, Spot, Steps};
+use version_index::{Index, Spot, Steps, Walk, first_spot};
 
 /// How many unfinished files a page has at most, and where no number is asked for.
 const MOST_UNFINISHED: u32 = 100;
@@ -48,7 +48,7 @@ fn place_below(alloc: Global, bucket: BucketNum, below: u64) -> Result<Spot, Mem
     ensures { IfOk result (λ s. s ≡ after_version bucket [] below) }
 {
     if below == 0 {
-        return past_name(alloc, bucket, b"");
+        return past_name(first_spot(alloc, bucket), bucket, b"");
     }
     match VersionNum::new(below - 1) {
         Some(num) => Ok(Spot {
@@ -109,10 +109,11 @@ fn starts_from<L: Ledger>(
     starts.in_order();
     let first = first_number(ask);
     let mut below = LAST_VERSION - first + 1;
+    let mut walk = Walk::new(starts);
     let mut rows = Vec::new(alloc);
     'rows: while rows.len() <= size {
         let place = place_below(alloc, ask.bucket, below)?;
-        let Some((place, name)) = starts.seek(&place, steps) else {
+        let Some((place, name)) = walk.seek(&place, steps) else {
             return Ok(rows);
         };
         let row = start_turn(alloc, ask, place, name)?;

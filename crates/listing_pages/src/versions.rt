@@ -7,7 +7,7 @@ ghost use Rattle.listing_pages.specs.PageOf.{IsDelimiter, asked_rows, folder_of_
 ghost use Rattle.listing_pages.specs.Places.{after_row, after_version};
 
 use crate::ask::{Ask, page_size};
-use crate::folders::{Turn, folder_turn};
+use crate::folders::{Turn, folder_turn, folder_under};
 use crate::page::{Page, PageRow};
 use crate::places::{first_place, past_version};
 use b2_base::{Memory, Text};
@@ -15,10 +15,10 @@ use b2_types::Version;
 use name_rules::is_prefix;
 use std::alloc::Global;
 use std::sync::ledger::Ledger;
-use version_index::{Index, Steps};
+use version_index::{Index, Spot, Steps, Walk};
 
-// The row of the version.
-fn turn(alloc: Global, ask: &Ask, version: &Version) -> Result<Turn, Memory>
+// The row of the version. The place after it takes the memory of the one before.
+fn turn(alloc: Global, ask: &Ask, version: &Version, place: Spot) -> Result<Turn, Memory>
     requires { IsDelimiter ask.now.delimiter }
     ensures row { IfOk result (λ t. t.row ≡ page_row (row_of ask.now.prefix ask.now.delimiter version.now)) }
     ensures next { IfOk result (λ t. t.next ≡ after_row ask.now.bucket
@@ -26,10 +26,10 @@ fn turn(alloc: Global, ask: &Ask, version: &Version) -> Result<Turn, Memory>
         (after_version ask.now.bucket version.now.name version.now.num)) }
 {
     let name = version.name.get();
-    if let Some(turn) = folder_turn(alloc, ask, name)? {
-        return Ok(turn);
+    if let Some(folder) = folder_under(ask, name) {
+        return folder_turn(alloc, ask.bucket, folder, place);
     }
-    let next = past_version(alloc, ask.bucket, name.as_bytes(), version.num)?;
+    let next = past_version(place, ask.bucket, name.as_bytes(), version.num)?;
     let row = PageRow::File(Text::copy(alloc, name)?, version.num);
     Ok(Turn { row, next })
 }
@@ -51,15 +51,16 @@ fn rows_from<L: Ledger>(
 {
     index.in_order();
     let mut place = first_place(alloc, ask, ask.start_num)?;
+    let mut walk = Walk::new(index);
     let mut rows = Vec::new(alloc);
     'rows: while rows.len() <= size {
-        let Some((_, version)) = index.seek(&place, steps) else {
+        let Some((_, version)) = walk.seek(&place, steps) else {
             return Ok(rows);
         };
         if !is_prefix(ask.prefix.get().as_bytes(), version.name.get().as_bytes()) {
             return Ok(rows);
         }
-        let turn = turn(alloc, ask, version)?;
+        let turn = turn(alloc, ask, version, place)?;
         place = turn.next;
         rows.push(turn.row)?;
     }

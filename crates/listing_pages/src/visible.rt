@@ -9,7 +9,7 @@ ghost use Rattle.listing_pages.specs.PageOf.{IsDelimiter, asked_rows, listing_of
 ghost use Rattle.listing_pages.specs.PassedOver.{passed_over};
 
 use crate::ask::{Ask, page_size};
-use crate::folders::folder_turn;
+use crate::folders::{folder_turn, folder_under};
 use crate::page::{Page, PageRow, push_some};
 use crate::places::{first_place, past_name, past_version};
 use b2_base::{Memory, Text};
@@ -17,7 +17,7 @@ use b2_types::{Action, Version};
 use name_rules::is_prefix;
 use std::alloc::Global;
 use std::sync::ledger::Ledger;
-use version_index::{Index, Spot, Steps};
+use version_index::{Index, Spot, Steps, Walk};
 
 // A row, where the version has one, and where the listing goes on.
 #[derive(Drop)]
@@ -34,19 +34,20 @@ fn is_late_one(ask: &Ask, version: &Version) -> bool
 }
 
 // The row of an upload that counts.
-fn upload_turn(alloc: Global, ask: &Ask, version: &Version) -> Result<NameTurn, Memory>
+fn upload_turn(alloc: Global, ask: &Ask, version: &Version, place: Spot) -> Result<NameTurn, Memory>
     requires { IsDelimiter ask.now.delimiter }
     ensures row { IfOk result (λ t. t.row ≡ row_by action.Upload ask.now version.now) }
     ensures next { IfOk result (λ t. t.next ≡ next_by action.Upload ask.now version.now) }
 {
     let name = version.name.get();
-    if let Some(turn) = folder_turn(alloc, ask, name)? {
+    if let Some(folder) = folder_under(ask, name) {
+        let turn = folder_turn(alloc, ask.bucket, folder, place)?;
         return Ok(NameTurn {
             row: Some(turn.row),
             next: turn.next,
         });
     }
-    let next = past_name(alloc, ask.bucket, name.as_bytes())?;
+    let next = past_name(place, ask.bucket, name.as_bytes())?;
     if is_late_one(ask, version) {
         return Ok(NameTurn { row: None, next });
     }
@@ -57,21 +58,22 @@ fn upload_turn(alloc: Global, ask: &Ask, version: &Version) -> Result<NameTurn, 
     })
 }
 
-fn name_turn(alloc: Global, ask: &Ask, version: &Version) -> Result<NameTurn, Memory>
+// The turn of a version. The place after it takes the memory of the one before.
+fn name_turn(alloc: Global, ask: &Ask, version: &Version, place: Spot) -> Result<NameTurn, Memory>
     requires { IsDelimiter ask.now.delimiter }
     ensures row { IfOk result (λ t. t.row ≡ row_by version.now.action ask.now version.now) }
     ensures next { IfOk result (λ t. t.next ≡ next_by version.now.action ask.now version.now) }
 {
     match version.action {
-        Action::Upload => upload_turn(alloc, ask, version),
+        Action::Upload => upload_turn(alloc, ask, version, place),
         Action::Hide => {
             let name = version.name.get();
-            let next = past_name(alloc, ask.bucket, name.as_bytes())?;
+            let next = past_name(place, ask.bucket, name.as_bytes())?;
             Ok(NameTurn { row: None, next })
         }
         Action::Start => {
             let name = version.name.get();
-            let next = past_version(alloc, ask.bucket, name.as_bytes(), version.num)?;
+            let next = past_version(place, ask.bucket, name.as_bytes(), version.num)?;
             Ok(NameTurn { row: None, next })
         }
     }
@@ -97,15 +99,16 @@ fn names_from<L: Ledger>(
 {
     index.in_order();
     let mut place = first_place(alloc, ask, None)?;
+    let mut walk = Walk::new(index);
     let mut rows = Vec::new(alloc);
     'rows: while rows.len() <= size {
-        let Some((_, version)) = index.seek(&place, steps) else {
+        let Some((_, version)) = walk.seek(&place, steps) else {
             return Ok(rows);
         };
         if !is_prefix(ask.prefix.get().as_bytes(), version.name.get().as_bytes()) {
             return Ok(rows);
         }
-        let turn = name_turn(alloc, ask, version)?;
+        let turn = name_turn(alloc, ask, version, place)?;
         place = turn.next;
         push_some(&mut rows, turn.row)?;
     }

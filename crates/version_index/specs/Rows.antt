@@ -53,6 +53,17 @@ module _ {V : Type 0} where
   abbrev pub without : Spot → List (Spot × V) → List (Spot × V)
   without s rows = filter (λ r. not (is_spot s r.0)) rows
 
+  -- the rows at s or after it, and those after it, of all buckets
+  abbrev pub rows_from : Spot → List (Spot × V) → List (Spot × V)
+  rows_from s rows = filter (λ r. is_le (listing_cmp s r.0)) rows
+
+  abbrev pub rows_after : Spot → List (Spot × V) → List (Spot × V)
+  rows_after s rows = filter (λ r. is_lt (listing_cmp s r.0)) rows
+
+  -- the first of them
+  abbrev pub first_from : Spot → List (Spot × V) → Option (Spot × V)
+  first_from s rows = find (λ r. is_le (listing_cmp s r.0)) rows
+
   -- the first row of the bucket of s at s or after it
   abbrev pub row_from : Spot → List (Spot × V) → Option (Spot × V)
   row_from s rows = find (λ r. is_from s r.0) rows

@@ -5,7 +5,7 @@ ghost use Rattle.std.specs.Map.Iter.{ShowsInOrder, deref_pair};
 ghost use Rattle.std.specs.Option.{option_copied, option_map};
 ghost use Rattle.b2_base.specs.declared.numbers.TheConstants.{LAST_VERSION};
 ghost use Rattle.version_index.specs.declared.spot.Spot.{Spot as Place};
-ghost use Rattle.version_index.specs.Rows.{AreAscending, AreInRange, first_named, first_spot, placed, row_from, value_at, without};
+ghost use Rattle.version_index.specs.Rows.{AreAscending, AreInRange, first_named, first_spot, placed, row_from, rows_from, value_at, without};
 
 use crate::spot::Spot;
 use crate::steps::Steps;
@@ -16,8 +16,8 @@ use std::collections::btree_map::Range;
 use std::marker::Model;
 use std::sync::ledger::Ledger;
 
-// The place before all rows of the bucket.
-fn first_spot(alloc: Global, bucket: BucketNum) -> Spot
+/// The place before all rows of the bucket. It has no name, and takes no memory.
+pub fn first_spot(alloc: Global, bucket: BucketNum) -> Spot
     ensures { result ≡ first_spot bucket }
 {
     match VersionNum::new(LAST_VERSION) {
@@ -128,6 +128,22 @@ impl<V: Drop> Index<V> {
             None
         }
     }
+
+    // All rows.
+    pub(crate) fn all_rows(&self) -> Range<'_, Spot, V>
+        ensures { result ≡ self.now }
+    {
+        self.rows.range(..)
+    }
+
+    // The rows at `s` or after it, of all buckets.
+    pub(crate) fn rows_from(&self, s: &Spot) -> Range<'_, Spot, V>
+        ensures rest { result ≡ rows_from s.now self.now }
+        ensures ascending { AreAscending self.now }
+    {
+        self.rows.range(s..)
+    }
+
     /// The rows of the bucket and of those with greater numbers, in listing order: one way down the
     /// index, and then from row to row.
     pub fn from_bucket(&self, alloc: Global, bucket: BucketNum) -> Range<'_, Spot, V>

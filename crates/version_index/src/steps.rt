@@ -5,8 +5,8 @@ ghost use Rattle.std.specs.Prelude.{◌≡◌, ◌+◌, ◌<◌, ℕ};
 use std::marker::Model;
 use std::sync::ledger::{Blank, Book, Ledger, Share};
 
-/// How many seeks there were, each one way down the index. It takes no bytes, and only a seek
-/// changes it.
+/// How many seeks there were, each one way down the index at most. It takes no bytes, and only a
+/// seek changes it.
 #[derive(Drop)]
 pub struct Steps<L: Ledger> {
     book: Book<L>,

@@ -10,6 +10,7 @@ abbrev pub invariant-rows : goal.invariant-rows
 invariant-rows g l =
     let N = starts_in l.ask.bucket l.starts in
     record {
+      rows : l.walk ≡ l.starts;
       bound : l.below ≤ LAST_VERSION + 1;
       split : l.rows.items ++ starts_left l.ask.prefix l.below N ≡ map start_row (asked_starts l.ask.prefix (unwrap_or l.ask.start_num 0) N);
       looks : Looks N (unwrap_or l.ask.start_num 0) l.size l.fn.steps l.steps l.below l.rows.items;

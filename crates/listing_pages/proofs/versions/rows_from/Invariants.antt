@@ -8,6 +8,7 @@ abbrev pub invariant-rows : goal.invariant-rows
 invariant-rows g l =
     let R = of_bucket l.ask.bucket l.index in
     record {
+      rows : l.walk ≡ l.index;
       stands : Stands (λ v. true) R l.ask (map page_row (asked_rows (listing_of l.ask) R)) l.rows.items l.place;
       steps : l.steps ≡ l.fn.steps + length l.rows.items;
       few : length l.rows.items ≤ l.size + 1;

@@ -1,5 +1,6 @@
 use Rattle.std.proofs.Common.{◌≡◌, ◌+◌, arith, length, sym, ap, ◌∙◌}
 use Rattle.std.specs.Prelude.{option_map}
+use Rattle.version_index.specs.Rows.{row_from}
 use Rattle.index_rows.specs.OwnRows.{of_bucket}
 use Rattle.listing_pages.proofs.Gather.{all_taken, enough_taken, none_begin, none_more}
 use Rattle.listing_pages.proofs.Late.{counts}
@@ -14,6 +15,7 @@ rows-init g c =
     let up = bucket_order c.args.ask.now.bucket c.args.index.now c.in_order.ensures.ascending c.requires.own in
     let low = bucket_low c.args.ask.now.bucket c.args.index.now c.in_order.ensures.in_range c.requires.own in
     record {
+      rows = c.new-walk.ensures;
       stands = rw (c.in_ok-place.ensures, c.new-rows.ensures.items) (names_begin R up low c.args.ask.now c.requires.delimiter);
       counts = rw (c.in_ok-place.ensures, c.new-rows.ensures.items) (counts_begin R c.args.ask.now c.args.size _);
       few = rw c.new-rows.ensures.items (omega arith);
@@ -25,7 +27,7 @@ returns-in_default g c =
     let R = of_bucket c.args.ask.now.bucket c.args.index.now in
     let up = bucket_order c.args.ask.now.bucket c.args.index.now c.in_order.ensures.ascending c.requires.own in
     let low = bucket_low c.args.ask.now.bucket c.args.index.now c.in_order.ensures.in_range c.requires.own in
-    let found = sought_in c.args.ask.now.bucket c.rows.place c.args.index.now i.stands.stands.bucket c.requires.own ∙ ap (option_map (λ r. r.1)) (sym c.in_default.ensures.row) in
+    let found = sought_in c.args.ask.now.bucket c.rows.place c.args.index.now i.stands.stands.bucket c.requires.own ∙ ap (λ rows. option_map (λ r. r.1) (row_from c.rows.place rows)) (sym i.rows) ∙ ap (option_map (λ r. r.1)) (sym c.in_default.ensures.row) in
     let ends = ends_short R up low c.args.ask.now c.requires.delimiter c.args.size c.args.steps.now c.rows.steps c.rows.rows.items c.rows.place i.counts (omega (arith, c.rows-test.true, c.len.ensures)) in
     record {
       rows = all_taken (c.args.size + 1) c.rows.rows.items _ (none_more (counts R c.args.ask.now) R up low c.args.ask.now c.requires.delimiter _ c.rows.rows.items c.rows.place i.stands.stands found) i.few;
@@ -38,7 +40,7 @@ returns-then-not-is_prefix g c =
     let R = of_bucket c.args.ask.now.bucket c.args.index.now in
     let up = bucket_order c.args.ask.now.bucket c.args.index.now c.in_order.ensures.ascending c.requires.own in
     let low = bucket_low c.args.ask.now.bucket c.args.index.now c.in_order.ensures.in_range c.requires.own in
-    let found = sought_in c.args.ask.now.bucket c.rows.place c.args.index.now i.stands.stands.bucket c.requires.own ∙ ap (option_map (λ r. r.1)) (sym c.in-Some.ensures.row) in
+    let found = sought_in c.args.ask.now.bucket c.rows.place c.args.index.now i.stands.stands.bucket c.requires.own ∙ ap (λ rows. option_map (λ r. r.1) (row_from c.rows.place rows)) (sym i.rows) ∙ ap (option_map (λ r. r.1)) (sym c.in-Some.ensures.row) in
     let out = rw (c.as_bytes.ensures.value, c.as_bytes-in-rows.ensures.value, c.get.ensures, c.get-in-rows.ensures.0) at (sym c.is_prefix.ensures ∙ c.if-not-is_prefix.true) in
     let ends = ends_short R up low c.args.ask.now c.requires.delimiter c.args.size c.args.steps.now c.rows.steps c.rows.rows.items c.rows.place i.counts (omega (arith, c.rows-test.true, c.len.ensures)) in
     record {
@@ -52,7 +54,7 @@ rows-smaller g c =
     let R = of_bucket c.args.ask.now.bucket c.args.index.now in
     let up = bucket_order c.args.ask.now.bucket c.args.index.now c.in_order.ensures.ascending c.requires.own in
     let low = bucket_low c.args.ask.now.bucket c.args.index.now c.in_order.ensures.in_range c.requires.own in
-    let found = sought_in c.args.ask.now.bucket c.rows.place c.args.index.now i.stands.stands.bucket c.requires.own ∙ ap (option_map (λ r. r.1)) (sym c.in-Some.ensures.row) in
+    let found = sought_in c.args.ask.now.bucket c.rows.place c.args.index.now i.stands.stands.bucket c.requires.own ∙ ap (λ rows. option_map (λ r. r.1) (row_from c.rows.place rows)) (sym i.rows) ∙ ap (option_map (λ r. r.1)) (sym c.in-Some.ensures.row) in
     let begins = rw (c.as_bytes.ensures.value, c.as_bytes-in-rows.ensures.value, c.get.ensures, c.get-in-rows.ensures.0) at (sym c.is_prefix.ensures ∙ c.if-not-is_prefix.false) in
     (named R up low c.args.ask.now c.requires.delimiter _ c.rows.rows.items c.rows.place i.stands c.in-Some.version.now found begins _ _ _ c.in_ok-turn.ensures.row c.in_ok-turn.ensures.next c.in_ok-push_some.ensures).1
 
@@ -62,10 +64,11 @@ rows-preserved g c =
     let R = of_bucket c.args.ask.now.bucket c.args.index.now in
     let up = bucket_order c.args.ask.now.bucket c.args.index.now c.in_order.ensures.ascending c.requires.own in
     let low = bucket_low c.args.ask.now.bucket c.args.index.now c.in_order.ensures.in_range c.requires.own in
-    let found = sought_in c.args.ask.now.bucket c.rows.place c.args.index.now i.stands.stands.bucket c.requires.own ∙ ap (option_map (λ r. r.1)) (sym c.in-Some.ensures.row) in
+    let found = sought_in c.args.ask.now.bucket c.rows.place c.args.index.now i.stands.stands.bucket c.requires.own ∙ ap (λ rows. option_map (λ r. r.1) (row_from c.rows.place rows)) (sym i.rows) ∙ ap (option_map (λ r. r.1)) (sym c.in-Some.ensures.row) in
     let begins = rw (c.as_bytes.ensures.value, c.as_bytes-in-rows.ensures.value, c.get.ensures, c.get-in-rows.ensures.0) at (sym c.is_prefix.ensures ∙ c.if-not-is_prefix.false) in
     let longer = few_more c.rows.rows.items c.push_some.new.rows.items _ c.in_ok-push_some.ensures in
     record {
+      rows = c.seek.ensures.rows ∙ i.rows;
       stands = (named R up low c.args.ask.now c.requires.delimiter _ c.rows.rows.items c.rows.place i.stands c.in-Some.version.now found begins _ _ _ c.in_ok-turn.ensures.row c.in_ok-turn.ensures.next c.in_ok-push_some.ensures).0;
       counts = counted_turn R up low c.args.ask.now c.requires.delimiter c.args.size _ c.rows.steps c.rows.rows.items c.rows.place i.counts (omega (arith, c.rows-test.true, c.len.ensures)) i.stands.starts c.in-Some.version.now found begins _ _ _ _ c.in_ok-turn.ensures.row c.in_ok-turn.ensures.next c.in_ok-push_some.ensures c.seek.ensures.steps;
       few = omega (arith, longer, c.rows-test.true, c.len.ensures);
