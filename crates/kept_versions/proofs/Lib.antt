@@ -3,3 +3,5 @@ pub mod Spots
 pub mod Starts
 pub mod Kept
 pub mod Steps
+pub mod StartsOf
+pub mod InBucket

@@ -1,15 +1,17 @@
 //! Versions.
 
-ghost use Rattle.std.specs.Prelude.{◌≡◌, ◌==◌, ◌&&◌, not, [], IfOk, OnOk, None, true, false, find, filter, List, map};
+ghost use Rattle.std.specs.Prelude.{◌≡◌, ◌==◌, ◌&&◌, ℕ, not, [], IfOk, OnOk, None, true, false, find, filter, length, List, map};
 ghost use Rattle.std.specs.Prelude.{option_map};
 ghost use Rattle.std.specs.Option.{option_copied};
 ghost use Rattle.std.specs.List.{list_any};
 ghost use Rattle.b2_base.specs.declared.extent.Extent.{Extent as TheExtent};
 ghost use Rattle.b2_types.specs.declared.version.VersionOf.{VersionOf as TheVersion};
 ghost use Rattle.b2_model.specs.Lists.{put_by};
+ghost use Rattle.b2_model.specs.Rows.{rows};
+ghost use Rattle.b2_model.specs.State.{State};
 ghost use Rattle.version_index.specs.Rows.{value_at};
-ghost use Rattle.index_rows.specs.OwnRows.{AreNumbered, spot_of};
-ghost use Rattle.listing_pages.specs.Unfinished.{start_spot};
+ghost use Rattle.index_rows.specs.OwnRows.{AreNumbered, AreOwn, of_bucket, spot_of};
+ghost use Rattle.listing_pages.specs.Unfinished.{AreStarts, AreStartsOf, start_spot};
 ghost use Rattle.kept_versions.specs.Kept.{spot_entry, with_start};
 
 use b2_base::{Blob, BucketNum, Memory, VersionNum};
@@ -161,5 +163,42 @@ impl Versions {
         let place = start_place(alloc, bucket, num);
         let _ = self.starts.remove(&place);
         self.index.remove(&spot)
+    }
+}
+
+impl Versions {
+    /// How many they are.
+    pub fn count(&self) -> usize
+        ensures { result ≡ length self.now }
+    {
+        self.spots.len()
+    }
+
+    /// Whether one of them stands in the bucket.
+    pub fn has_bucket(&self, alloc: Global, bucket: BucketNum) -> bool
+        ensures { result ≡ list_any (λ v. v.bucket == bucket) self.now }
+    {
+        match self.index.from_bucket(alloc, bucket).next() {
+            Some(row) => row.0.bucket == bucket,
+            None => false,
+        }
+    }
+
+    /// The versions in listing order.
+    pub fn index(&self) -> &Index<Version>
+        ensures own { AreOwn result.now }
+        ensures numbered { AreNumbered self.now }
+        ensures listed { (M : State TheExtent) (bucket : ℕ) → M.versions ≡ self.now
+            → of_bucket bucket result.now ≡ rows M bucket }
+    {
+        &self.index
+    }
+
+    /// The large files that were begun and are not finished.
+    pub fn starts(&self) -> &Index<FileName>
+        ensures starts { AreStarts result.now }
+        ensures listed { (bucket : ℕ) → AreStartsOf self.now bucket result.now }
+    {
+        &self.starts
     }
 }
