@@ -2,5 +2,7 @@
 #![tactic(auto)]
 
 mod asked;
+mod laws;
 
 pub use asked::{Asked, Asking, read_asked};
+pub use laws::one_upload;

@@ -3,3 +3,8 @@ pub mod Information
 pub mod Files
 pub mod Rows
 pub mod Buckets
+pub mod Caps
+pub mod Keys
+pub mod WholeBuckets
+pub mod Refusals
+pub mod Answers

@@ -14,7 +14,7 @@ use Rattle.b2_types.specs.declared.shown.ShownDigest.{ShownDigest}
 use Rattle.b2_types.specs.declared.shown.ShownFile.{ShownFile}
 use Rattle.wire_forms.specs.Body.{or_null, action_name, mode_json, retention_json, hold_json, readable, id_by, digest_text, file_json}
 use Rattle.wire_laws.specs.Told.{num_by, told_digest, told_file, IsDigest, IsFile}
-use Rattle.wire_laws.proofs.Plain.{text, count, flag, is_null, same_option, same_bucket, same_version}
+use Rattle.wire_laws.proofs.Plain.{text, count, flag, is_null, same_option, same_text, same_bucket, same_version}
 use Rattle.wire_laws.proofs.Information.{same_info}
 use Rattle.wire_laws.proofs.Files.{tells_digest, keeps_digest}
 
@@ -29,14 +29,14 @@ row_back row.Hide = refl
 row_back row.Start = refl
 row_back row.Folder = refl
 
-abbrev mode_of : List ℕ → Mode
+abbrev pub mode_of : List ℕ → Mode
 mode_of t = if slice_index t 0 == 103 then mode.Governance else mode.Compliance
 
-mode_back : (m : Mode) → mode_of (text (mode_json m)) ≡ m
+pub mode_back : (m : Mode) → mode_of (text (mode_json m)) ≡ m
 mode_back mode.Governance = refl
 mode_back mode.Compliance = refl
 
-mode_some : (m : Mode) → is_null (mode_json m) ≡ false
+pub mode_some : (m : Mode) → is_null (mode_json m) ≡ false
 mode_some mode.Governance = refl
 mode_some mode.Compliance = refl
 
@@ -44,10 +44,10 @@ hold_back : (on : Bool) → (length (text (hold_json on)) == 2) ≡ on
 hold_back true = refl
 hold_back false = refl
 
-same_hold : (a b : Bool) → hold_json a ≡ hold_json b → a ≡ b
+pub same_hold : (a b : Bool) → hold_json a ≡ hold_json b → a ≡ b
 same_hold a b same = sym (hold_back a) ∙ ap (λ d. length (text d) == 2) same ∙ hold_back b
 
-same_retention : (a b : Option Retention) → retention_json a ≡ retention_json b → a ≡ b
+pub same_retention : (a b : Option Retention) → retention_json a ≡ retention_json b → a ≡ b
 same_retention None None same = refl
 same_retention None (Some s) same = absurd (false≢true (sym (mode_some s.mode) ∙ ap (λ d. is_null (field (codes "mode") d)) (sym same)))
 same_retention (Some r) None same = absurd (false≢true (sym (mode_some r.mode) ∙ ap (λ d. is_null (field (codes "mode") d)) same))
@@ -57,17 +57,11 @@ same_retention (Some r) (Some s) same =
     λ i. Some (record { mode = kind i; until = until i })
 
 -- a value that not every key may read
-same_readable : {X : Type 0} (json : X → Data) → ((x y : X) → json x ≡ json y → x ≡ y) → (a b : Option X) → readable json a ≡ readable json b → a ≡ b
+pub same_readable : {X : Type 0} (json : X → Data) → ((x y : X) → json x ≡ json y → x ≡ y) → (a b : Option X) → readable json a ≡ readable json b → a ≡ b
 same_readable json tells None None same = refl
 same_readable json tells None (Some y) same = absurd (false≢true (ap (λ d. flag (field (codes "isClientAuthorizedToRead") d)) same))
 same_readable json tells (Some x) None same = absurd (false≢true (ap (λ d. flag (field (codes "isClientAuthorizedToRead") d)) (sym same)))
 same_readable json tells (Some x) (Some y) same = ap Some (tells x y (ap (field (codes "value")) same))
-
-same_text : (a b : Option (List ℕ)) → or_null string a ≡ or_null string b → a ≡ b
-same_text None None same = refl
-same_text None (Some y) same = absurd (false≢true (ap is_null (sym same)))
-same_text (Some x) None same = absurd (false≢true (ap is_null same))
-same_text (Some x) (Some y) same = ap (λ d. Some (text d)) same
 
 same_digest : (a b : Option ShownDigest) → ((d : ShownDigest) → a ≡ Some d → IsDigest d) → ((d : ShownDigest) → b ≡ Some d → IsDigest d)
     → or_null (λ d. string (digest_text d)) a ≡ or_null (λ d. string (digest_text d)) b → option_map told_digest a ≡ option_map told_digest b

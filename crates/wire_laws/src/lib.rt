@@ -4,4 +4,7 @@
 
 mod laws;
 
-pub use laws::{told_buckets, told_digests, told_files, told_parts};
+pub use laws::{
+    told_answers, told_buckets, told_digests, told_files, told_keys, told_parts, told_refusals,
+    told_whole_buckets,
+};
