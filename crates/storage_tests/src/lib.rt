@@ -1,4 +1,4 @@
-//! Tests of the disk, of extents, of the index of versions and of its pages, by their public calls.
+//! Tests of the disk, of extents, of the index of versions, of its pages and of passes over it, by their public calls.
 #![tactic(auto)]
 
 #[cfg(test)]
@@ -11,5 +11,7 @@ mod index;
 mod numbered;
 #[cfg(test)]
 mod pages;
+#[cfg(test)]
+mod passes;
 #[cfg(test)]
 mod space;

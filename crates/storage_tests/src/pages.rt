@@ -28,7 +28,7 @@ const ROWS: [(&str, u64, Action); 8] = [
     ("f", 8, Action::Hide),
 ];
 
-fn no_info(alloc: Global) -> Result<InfoPairs, Memory> {
+pub fn no_info(alloc: Global) -> Result<InfoPairs, Memory> {
     info_pairs(alloc, &[]).ok().ok_or(Memory)
 }
 
@@ -38,7 +38,7 @@ fn name_of(alloc: Global, name: &str) -> Result<FileName, Memory>
     file_name(alloc, name.as_bytes()).ok().ok_or(Memory)
 }
 
-fn bucket() -> BucketNum
+pub fn bucket() -> BucketNum
     ensures { result ≡ 1 }
 {
     match BucketNum::new(1) {
@@ -47,8 +47,14 @@ fn bucket() -> BucketNum
     }
 }
 
-fn version(alloc: Global, name: &str, num: VersionNum, action: Action) -> Result<Version, Memory>
-    ensures { IfOk result (λ v. spot_of v ≡ spot_at name.now num) }
+pub fn version(
+    alloc: Global,
+    name: &str,
+    num: VersionNum,
+    action: Action,
+) -> Result<Version, Memory>
+    ensures spot { IfOk result (λ v. spot_of v ≡ spot_at name.now num) }
+    ensures num { IfOk result (λ v. v.num ≡ num) }
 {
     let info = no_info(alloc)?;
     let name = name_of(alloc, name)?;
@@ -70,27 +76,26 @@ fn version(alloc: Global, name: &str, num: VersionNum, action: Action) -> Result
     })
 }
 
-// Puts the version at its spot, where nothing stands.
-fn put(
+/// Puts the version at its spot, where nothing stands.
+pub fn put(
     alloc: Global,
     index: &mut Index<Version>,
     name: &str,
-    num: VersionNum,
-    action: Action,
+    version: Version,
 ) -> Result<(), Memory>
-    requires { AreOwn index.old }
+    requires own { AreOwn index.old }
+    requires spot { spot_of version ≡ spot_at name.now version.num }
     ensures { AreOwn index.new }
 {
     let place = Blob::copy(alloc, name.as_bytes())?;
     let spot = Spot {
         bucket: bucket(),
         name: place,
-        num,
+        num: version.num,
     };
     if index.get(&spot).is_some() {
         return Ok(());
     }
-    let version = version(alloc, name, num, action)?;
     match index.insert(spot, version) {
         Ok(()) => {}
         Err(_) => return Err(Memory),
@@ -104,7 +109,8 @@ fn few_versions(alloc: Global) -> Result<Index<Version>, Memory>
     let mut index = Index::new(alloc);
     for (name, num, action) in ROWS {
         let num = VersionNum::new(num).ok_or(Memory)?;
-        put(alloc, &mut index, name, num, action)?;
+        let version = version(alloc, name, num, action)?;
+        put(alloc, &mut index, name, version)?;
     }
     Ok(index)
 }
