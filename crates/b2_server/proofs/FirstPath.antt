@@ -1,61 +1,58 @@
--- What the version machine answers to an authorize call, in a store that was made and opened once.
-use Rattle.std.proofs.Common.{◌≡◌, ℕ, Bool, true, false, ◌&&◌, ◌/◌, cond, nat_lt, List, [], ◌∷◌, find, Option, Some, None, slice_index, bytes_eq, refl, sym, ap, ◌∙◌, subst}
+-- What the version machine makes of an authorize call, in a store that gave tokens and did nothing else.
+use Rattle.std.proofs.Common.{◌≡◌, ℕ, ◌-◌, ◌^◌, ◌==◌, Bool, true, false, ◌&&◌, not, List, [], ◌∷◌, ◌++◌, find, drop, Option, Some, None, bytes_eq, refl, sym, ap, ◌∙◌, subst}
 use Rattle.std.specs.Cmp.Lexicographic.{bytes_decides}
+use Rattle.std.specs.Option.{is_none}
 use Rattle.sha2.specs.Sha256.{sha256}
 use Rattle.b2_base.specs.declared.settings.Settings.{Settings}
-use Rattle.rule_table.specs.Cap.{cap_order}
-use Rattle.rule_table.specs.CapSet.{set_of}
+use Rattle.rule_table.specs.declared.fault.FaultKind.{FaultKind}
 use Rattle.rule_table.specs.declared.fault.FaultKind.TheVariants as kind
 use Rattle.b2_types.specs.declared.kinds.ApiVersion.{ApiVersion}
 use Rattle.b2_types.specs.declared.kinds.ApiVersion.TheVariants as version
-use Rattle.b2_types.specs.declared.fault.Fault.{Fault}
+use Rattle.b2_types.specs.declared.key.Grant.{Grant}
 use Rattle.b2_types.specs.declared.call.Credentials.{Credentials}
 use Rattle.b2_types.specs.declared.call.Authorize.{Authorize}
 use Rattle.b2_types.specs.declared.call.Call.{Call}
 use Rattle.b2_types.specs.declared.call.Call.TheVariants.{AuthorizeAccount}
-use Rattle.b2_types.specs.declared.shown.ShownAccount.{ShownAccount}
 use Rattle.b2_types.specs.declared.shown.Shown.TheVariants as shown
-use Rattle.b2_types.specs.declared.answer.AnswerOf.{AnswerOf}
 use Rattle.b2_types.specs.declared.answer.AnswerOf.TheVariants as answer
 use Rattle.b2_types.specs.Fault.{plain}
-use Rattle.b2_model.specs.Kinds.{day}
 use Rattle.b2_model.specs.Checks.{check, first_fault, some_and}
 use Rattle.b2_model.specs.State.{State}
-use Rattle.b2_model.specs.LiveGrant.{is_before_end, token_text}
-use Rattle.b2_model.specs.Plan.{or_absent}
-use Rattle.b2_model.specs.AskKeys.{authorize_plan}
+use Rattle.b2_model.specs.LiveGrant.{is_before_end}
+use Rattle.b2_model.specs.Plan.{Plan, grants, or_absent, no_serial, new_token}
+use Rattle.b2_model.specs.AskKeys.{many_buckets, account_grant}
 use Rattle.b2_model.specs.Changes.{master_key}
-use Rattle.b2_model.specs.Ask.{outcome_or_refusal, ask}
-use Rattle.b2_model.specs.Run.{with_daily_pass, with_pass, moment, asks, run, of_bytes}
-use Rattle.std.specs.Option.{is_none}
-use Rattle.std.proofs.Common.{◌++◌, not}
-use Rattle.b2_server.specs.Answer.{opened_store, Authorizes}
+use Rattle.b2_model.specs.Shown.{shown_account}
+use Rattle.b2_model.specs.Ask.{Outcome, outcome_or_refusal, ask, at_moment, with_grant}
+use Rattle.b2_model.specs.Run.{of_bytes}
+use Rattle.b2_server.specs.Store.{given_store, master_account}
 
--- a store that was opened once, after a pass or not
-abbrev fresh : Settings → ℕ → ℕ → ℕ → State (List ℕ)
-fresh settings now kept today = record (opened_store settings) { now = now; kept = kept; pass_day = today }
+-- what is made of a call without a token
+pub asked : State (List ℕ) → ℕ → List ℕ → Call → Outcome (List ℕ)
+asked M t words c = ask of_bytes M t words None c
 
-record IsFresh (settings : Settings) (M : State (List ℕ)) : Type 0 where
-  now : ℕ
-  kept : ℕ
-  today : ℕ
-  is : M ≡ fresh settings now kept today
+-- a refusal, and what the master key is given
+abbrev pub refusal : State (List ℕ) → ℕ → List ℕ → FaultKind → Outcome (List ℕ)
+refusal M t words kind = record { state = at_moment M t; answer = answer.Refused (plain kind); words = words }
 
--- a pass finds nothing
-fresh_by : (settings : Settings) (t : ℕ) (b : Bool) → IsFresh settings (cond b (with_pass (opened_store settings) t) (opened_store settings))
-fresh_by settings t true = record { now = t; kept = t; today = t / day; is = refl }
-fresh_by settings t false = record { now = 0; kept = 0; today = 0; is = refl }
+abbrev pub giving : State (List ℕ) → ApiVersion → ℕ → List ℕ → Outcome (List ℕ)
+giving M v t words = record {
+  state = with_grant (Some (account_grant M t words (master_key M.settings))) (at_moment M t);
+  answer = answer.Json (shown.Account (master_account v M.settings (new_token M words)));
+  words = drop 2 words;
+}
 
-fresh_day : (settings : Settings) (t : ℕ) → IsFresh settings (with_daily_pass (opened_store settings) t)
-fresh_day settings t = fresh_by settings t (nat_lt (opened_store settings).pass_day (t / day))
+-- what is made of it, where the master key's test and that of the serials come out so
+abbrev plan_if : State (List ℕ) → ApiVersion → ℕ → List ℕ → Bool → Bool → Plan (List ℕ)
+plan_if M v t words found full =
+    or_absent kind.P2 (λ k. grants (many_buckets v k ∷ check kind.Cap full ∷ []) (account_grant M t words k) (shown.Account (shown_account v M k (new_token M words)))) (find (λ k. found) (master_key M.settings ∷ []))
 
--- the answer, where the master key's test comes out so
-abbrev answer_if : State (List ℕ) → Settings → ApiVersion → ℕ → List ℕ → Bool → AnswerOf (List ℕ)
-answer_if M settings v t words found =
-    let key = find (λ k. found) (master_key settings ∷ []) in
-    let p = or_absent kind.P2 (authorize_plan v M t words) key in
-    (outcome_or_refusal M t words p (first_fault (
-    (check kind.P1 false ∷ check kind.P2 (is_none key) ∷ check kind.P6 (some_and (λ k. not (is_before_end t k.end)) key) ∷ []) ++ p.own))).answer
+abbrev outcome_if : State (List ℕ) → ApiVersion → ℕ → List ℕ → Bool → Bool → Outcome (List ℕ)
+outcome_if M v t words found full =
+    let key = find (λ k. found) (master_key M.settings ∷ []) in
+    let p = plan_if M v t words found full in
+    outcome_or_refusal M t words p (first_fault (
+    (check kind.P1 false ∷ check kind.P2 (is_none key) ∷ check kind.P6 (some_and (λ k. not (is_before_end t k.end)) key) ∷ []) ++ p.own))
 
 both_true : (a b : Bool) → a ≡ true → b ≡ true → (a && b) ≡ true
 both_true a b is_a is_b = rw (is_a, is_b) refl
@@ -65,107 +62,98 @@ not_both true true wrong = absurd (wrong refl refl)
 not_both true false wrong = refl
 not_both false b wrong = refl
 
--- the account that the master key's credentials give
-abbrev pub master_account : ApiVersion → Settings → List ℕ → ShownAccount
-master_account v settings words = record {
-  version = v;
-  account = settings.account;
-  token = token_text 1 1 (slice_index words 0) (slice_index words 1);
-  url = settings.url;
-  part_min = settings.part_min;
-  caps = set_of cap_order;
-  buckets = [];
-  prefix = [];
-  end = None;
-}
-
--- what is answered on a state
-told_on : State (List ℕ) → ℕ → List ℕ → Call → AnswerOf (List ℕ)
-told_on M t words c = (ask of_bytes M t words None c).answer
-
-pub same_account : (v : ApiVersion) (settings : Settings) (words : List ℕ) (a : ShownAccount) (first second : ℕ) → a.version ≡ v → a.account ≡ settings.account → a.token ≡ token_text 1 1 first second
-    → first ≡ slice_index words 0 → second ≡ slice_index words 1
-    → a.url ≡ settings.url → a.part_min ≡ settings.part_min → a.caps ≡ set_of cap_order → a.buckets ≡ [] → a.prefix ≡ [] → a.end ≡ None → a ≡ master_account v settings words
-same_account v settings words a first second is_version account token is_first is_second url part caps buckets prefix end =
-    let told : a.token ≡ token_text 1 1 (slice_index words 0) (slice_index words 1) = token ∙ ap (λ w. token_text 1 1 w second) is_first ∙ ap (λ w. token_text 1 1 (slice_index words 0) w) is_second in
-    λ i. record {
-      version = is_version i;
-      account = account i;
-      token = told i;
-      url = url i;
-      part_min = part i;
-      caps = caps i;
-      buckets = buckets i;
-      prefix = prefix i;
-      end = end i;
-    }
-
 -- the calls of both versions
 abbrev call_of : ApiVersion → Option Credentials → Authorize
 call_of v credentials = record { version = v; credentials = credentials }
 
-given_with : (v : ApiVersion) (settings : Settings) (now kept today t : ℕ) (words : List ℕ) → answer_if (fresh settings now kept today) settings v t words true ≡ answer.Json (shown.Account (master_account v settings words))
-given_with version.V3 settings now kept today t words = refl
-given_with version.V4 settings now kept today t words = refl
-
-refused_with : (v : ApiVersion) (settings : Settings) (now kept today t : ℕ) (words : List ℕ) → answer_if (fresh settings now kept today) settings v t words false ≡ answer.Refused (plain kind.P2)
-refused_with v settings now kept today t words = refl
-
-given_on : (v : ApiVersion) (settings : Settings) (now kept today t : ℕ) (words : List ℕ) (c : Credentials) → c.id ≡ settings.account → sha256 c.secret ≡ settings.secret_hash
-    → told_on (fresh settings now kept today) t words (AuthorizeAccount (call_of v (Some c))) ≡ answer.Json (shown.Account (master_account v settings words))
-unfolding told_on
-given_on v settings now kept today t words c own hash =
-    ap (answer_if (fresh settings now kept today) settings v t words)
-    (both_true (bytes_eq settings.account c.id) (bytes_eq (sha256 c.secret) settings.secret_hash) ((bytes_decides settings.account c.id).1 (sym own)) ((bytes_decides (sha256 c.secret) settings.secret_hash).1 hash))
-    ∙ given_with v settings now kept today t words
-
-refused_on : (v : ApiVersion) (settings : Settings) (now kept today t : ℕ) (words : List ℕ) (c : Credentials) → ((c.id ≡ settings.account) × (sha256 c.secret ≡ settings.secret_hash) → ⊥)
-    → told_on (fresh settings now kept today) t words (AuthorizeAccount (call_of v (Some c))) ≡ answer.Refused (plain kind.P2)
-unfolding told_on
-refused_on v settings now kept today t words c wrong =
-    ap (answer_if (fresh settings now kept today) settings v t words)
-    (not_both (bytes_eq settings.account c.id) (bytes_eq (sha256 c.secret) settings.secret_hash)
-    (λ own hash. wrong (sym ((bytes_decides settings.account c.id).0 own), (bytes_decides (sha256 c.secret) settings.secret_hash).0 hash)))
-    ∙ refused_with v settings now kept today t words
-
-none_on : (v : ApiVersion) (settings : Settings) (now kept today t : ℕ) (words : List ℕ) → told_on (fresh settings now kept today) t words (AuthorizeAccount (call_of v None)) ≡ answer.Refused (plain kind.P1)
-unfolding told_on
-none_on v settings now kept today t words = refl
-
--- a run of one call, on any state
-run_one : (M : State (List ℕ)) (reading : ℕ) (words : List ℕ) (c : Call) → (run of_bytes M words (asks reading None c ∷ [])).answers ≡ told_on (with_daily_pass M (moment M reading)) (moment M reading) words c ∷ []
-unfolding told_on
-run_one M reading words c = refl
-
--- the answer of one step
-one_step : (settings : Settings) (words : List ℕ) (c : Authorize) (told : AnswerOf (List ℕ))
-    → ((now kept today t : ℕ) → told_on (fresh settings now kept today) t words (AuthorizeAccount c) ≡ told) → Authorizes settings words c told
-one_step settings words c told answers reading =
-    let t = moment (opened_store settings) reading in
-    let day = fresh_day settings t in
-    run_one (opened_store settings) reading words (AuthorizeAccount c) ∙ ap (λ M. told_on M t words (AuthorizeAccount c) ∷ []) day.is ∙ ap (λ a. a ∷ []) (answers day.now day.kept day.today t)
-
--- ---- by the credentials of a call
-
 as_call : (call : Authorize) (credentials : Option Credentials) → call.credentials ≡ credentials → call_of call.version credentials ≡ call
 as_call call credentials is = λ i. record { version = call.version; credentials = sym is i }
 
-pub gives_account : (settings : Settings) (words : List ℕ) (c : Credentials) (call : Authorize) (a : ShownAccount) → call.credentials ≡ Some c → c.id ≡ settings.account → sha256 c.secret ≡ settings.secret_hash
-    → a ≡ master_account call.version settings words → Authorizes settings words call (answer.Json (shown.Account a))
-gives_account settings words c call a is own hash told =
-    let P : Authorize → Type 0 = λ k. Authorizes settings words k (answer.Json (shown.Account a)) in
-    subst P (as_call call (Some c) is) (one_step settings words (call_of call.version (Some c)) (answer.Json (shown.Account a))
-    (λ now kept today t. given_on call.version settings now kept today t words c own hash ∙ ap (λ x. answer.Json (shown.Account x)) (sym told)))
+-- ---- by how the tests come out
 
-pub refuses_pair : (settings : Settings) (words : List ℕ) (c : Credentials) (call : Authorize) (f : Fault) → call.credentials ≡ Some c → ((c.id ≡ settings.account) × (sha256 c.secret ≡ settings.secret_hash) → ⊥)
-    → f ≡ plain kind.P2 → Authorizes settings words call (answer.Refused f)
-refuses_pair settings words c call f is wrong told =
-    let P : Authorize → Type 0 = λ k. Authorizes settings words k (answer.Refused f) in
-    subst P (as_call call (Some c) is) (one_step settings words (call_of call.version (Some c)) (answer.Refused f)
-    (λ now kept today t. refused_on call.version settings now kept today t words c wrong ∙ ap (λ x. answer.Refused x) (sym told)))
+given_if : (v : ApiVersion) (S : Settings) (now kept pass_day serial : ℕ) (given : List Grant) (t : ℕ) (words : List ℕ)
+    → outcome_if (given_store S now kept pass_day serial given) v t words true false ≡ giving (given_store S now kept pass_day serial given) v t words
+given_if version.V3 S now kept pass_day serial given t words = refl
+given_if version.V4 S now kept pass_day serial given t words = refl
 
-pub refuses_none : (settings : Settings) (words : List ℕ) (call : Authorize) (f : Fault) → call.credentials ≡ None → f ≡ plain kind.P1 → Authorizes settings words call (answer.Refused f)
-refuses_none settings words call f is told =
-    let P : Authorize → Type 0 = λ k. Authorizes settings words k (answer.Refused f) in
-    subst P (as_call call None is) (one_step settings words (call_of call.version None) (answer.Refused f)
-    (λ now kept today t. none_on call.version settings now kept today t words ∙ ap (λ x. answer.Refused x) (sym told)))
+full_if : (v : ApiVersion) (S : Settings) (now kept pass_day serial : ℕ) (given : List Grant) (t : ℕ) (words : List ℕ)
+    → outcome_if (given_store S now kept pass_day serial given) v t words true true ≡ refusal (given_store S now kept pass_day serial given) t words kind.Cap
+full_if version.V3 S now kept pass_day serial given t words = refl
+full_if version.V4 S now kept pass_day serial given t words = refl
+
+other_if : (v : ApiVersion) (S : Settings) (now kept pass_day serial : ℕ) (given : List Grant) (t : ℕ) (words : List ℕ) (full : Bool)
+    → outcome_if (given_store S now kept pass_day serial given) v t words false full ≡ refusal (given_store S now kept pass_day serial given) t words kind.P2
+other_if v S now kept pass_day serial given t words full = refl
+
+none_if : (v : ApiVersion) (S : Settings) (now kept pass_day serial : ℕ) (given : List Grant) (t : ℕ) (words : List ℕ)
+    → asked (given_store S now kept pass_day serial given) t words (AuthorizeAccount (call_of v None)) ≡ refusal (given_store S now kept pass_day serial given) t words kind.P1
+unfolding asked
+none_if v S now kept pass_day serial given t words = refl
+
+by_tests : (v : ApiVersion) (S : Settings) (now kept pass_day serial : ℕ) (given : List Grant) (t : ℕ) (words : List ℕ) (c : Credentials)
+    → asked (given_store S now kept pass_day serial given) t words (AuthorizeAccount (call_of v (Some c)))
+    ≡ outcome_if (given_store S now kept pass_day serial given) v t words (bytes_eq S.account c.id && bytes_eq (sha256 c.secret) S.secret_hash) (serial == 2 ^ 64 - 1)
+unfolding asked
+by_tests v S now kept pass_day serial given t words c = refl
+
+-- ---- by the call's credentials
+
+own_test : (S : Settings) (c : Credentials) → c.id ≡ S.account → sha256 c.secret ≡ S.secret_hash → (bytes_eq S.account c.id && bytes_eq (sha256 c.secret) S.secret_hash) ≡ true
+own_test S c own hash = both_true (bytes_eq S.account c.id) (bytes_eq (sha256 c.secret) S.secret_hash) ((bytes_decides S.account c.id).1 (sym own)) ((bytes_decides (sha256 c.secret) S.secret_hash).1 hash)
+
+other_test : (S : Settings) (c : Credentials) → ((c.id ≡ S.account) × (sha256 c.secret ≡ S.secret_hash) → ⊥) → (bytes_eq S.account c.id && bytes_eq (sha256 c.secret) S.secret_hash) ≡ false
+other_test S c wrong =
+    not_both (bytes_eq S.account c.id) (bytes_eq (sha256 c.secret) S.secret_hash)
+    (λ own hash. wrong (sym ((bytes_decides S.account c.id).0 own), (bytes_decides (sha256 c.secret) S.secret_hash).0 hash))
+
+-- a state that gave tokens alone, and what its settings and serial are
+pub record Gave (M : State (List ℕ)) (S : Settings) : Type 0 where
+  pub now : ℕ
+  pub kept : ℕ
+  pub pass_day : ℕ
+  pub serial : ℕ
+  pub given : List Grant
+  pub is : M ≡ given_store S now kept pass_day serial given
+
+pub asks_none : (M : State (List ℕ)) (S : Settings) (t : ℕ) (words : List ℕ) (call : Authorize) → Gave M S → call.credentials ≡ None → asked M t words (AuthorizeAccount call) ≡ refusal M t words kind.P1
+asks_none M S t words call gave none =
+    let P : State (List ℕ) → Type 0 = λ N. asked N t words (AuthorizeAccount (call_of call.version None)) ≡ refusal N t words kind.P1 in
+    let Q : Authorize → Type 0 = λ a. asked M t words (AuthorizeAccount a) ≡ refusal M t words kind.P1 in
+    subst Q (as_call call None none) (subst P (sym gave.is) (none_if call.version S gave.now gave.kept gave.pass_day gave.serial gave.given t words))
+
+pub asks_other : (M : State (List ℕ)) (S : Settings) (t : ℕ) (words : List ℕ) (call : Authorize) (c : Credentials) → Gave M S → call.credentials ≡ Some c → ((c.id ≡ S.account) × (sha256 c.secret ≡ S.secret_hash) → ⊥)
+    → asked M t words (AuthorizeAccount call) ≡ refusal M t words kind.P2
+asks_other M S t words call c gave some wrong =
+    let P : State (List ℕ) → Type 0 = λ N. asked N t words (AuthorizeAccount (call_of call.version (Some c))) ≡ refusal N t words kind.P2 in
+    let Q : Authorize → Type 0 = λ a. asked M t words (AuthorizeAccount a) ≡ refusal M t words kind.P2 in
+    let full = gave.serial == 2 ^ 64 - 1 in
+    let N : State (List ℕ) = given_store S gave.now gave.kept gave.pass_day gave.serial gave.given in
+    subst Q (as_call call (Some c) some) (subst P (sym gave.is)
+    (by_tests call.version S gave.now gave.kept gave.pass_day gave.serial gave.given t words c
+    ∙ ap (λ (b : Bool). outcome_if N call.version t words b full) (other_test S c wrong)
+    ∙ other_if call.version S gave.now gave.kept gave.pass_day gave.serial gave.given t words full))
+
+-- what is made of the master key's call, where the test of the serials comes out so
+own_if : (M : State (List ℕ)) (S : Settings) (t : ℕ) (words : List ℕ) (call : Authorize) (c : Credentials) (full : Bool) (o : State (List ℕ) → Outcome (List ℕ)) (gave : Gave M S) → call.credentials ≡ Some c → c.id ≡ S.account → sha256 c.secret ≡ S.secret_hash
+    → (no_serial M).fails ≡ full
+    → outcome_if (given_store S gave.now gave.kept gave.pass_day gave.serial gave.given) call.version t words true full ≡ o (given_store S gave.now gave.kept gave.pass_day gave.serial gave.given)
+    → asked M t words (AuthorizeAccount call) ≡ o M
+own_if M S t words call c full o gave some own hash is_full makes =
+    let P : State (List ℕ) → Type 0 = λ N. asked N t words (AuthorizeAccount (call_of call.version (Some c))) ≡ o N in
+    let Q : Authorize → Type 0 = λ a. asked M t words (AuthorizeAccount a) ≡ o M in
+    let N : State (List ℕ) = given_store S gave.now gave.kept gave.pass_day gave.serial gave.given in
+    let serials : (gave.serial == 2 ^ 64 - 1) ≡ full = ap (λ (X : State (List ℕ)). (no_serial X).fails) (sym gave.is) ∙ is_full in
+    subst Q (as_call call (Some c) some) (subst P (sym gave.is)
+    (by_tests call.version S gave.now gave.kept gave.pass_day gave.serial gave.given t words c
+    ∙ (λ i. outcome_if N call.version t words (own_test S c own hash i) (serials i))
+    ∙ makes))
+
+pub asks_full : (M : State (List ℕ)) (S : Settings) (t : ℕ) (words : List ℕ) (call : Authorize) (c : Credentials) → Gave M S → call.credentials ≡ Some c → c.id ≡ S.account → sha256 c.secret ≡ S.secret_hash → (no_serial M).fails ≡ true
+    → asked M t words (AuthorizeAccount call) ≡ refusal M t words kind.Cap
+asks_full M S t words call c gave some own hash full =
+    own_if M S t words call c true (λ N. refusal N t words kind.Cap) gave some own hash full (full_if call.version S gave.now gave.kept gave.pass_day gave.serial gave.given t words)
+
+pub asks_own : (M : State (List ℕ)) (S : Settings) (t : ℕ) (words : List ℕ) (call : Authorize) (c : Credentials) → Gave M S → call.credentials ≡ Some c → c.id ≡ S.account → sha256 c.secret ≡ S.secret_hash → (no_serial M).fails ≡ false
+    → asked M t words (AuthorizeAccount call) ≡ giving M call.version t words
+asks_own M S t words call c gave some own hash free =
+    own_if M S t words call c false (λ N. giving N call.version t words) gave some own hash free (given_if call.version S gave.now gave.kept gave.pass_day gave.serial gave.given t words)

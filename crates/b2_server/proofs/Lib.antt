@@ -1,4 +1,6 @@
+pub mod Begun
+pub mod Tokens
 pub mod FirstPath
-pub mod Replies
-pub mod Runs
+pub mod Told
 pub mod Once
+pub mod Runs

@@ -1,36 +1,32 @@
 -- What a run of the program comes to.
-use Rattle.std.proofs.Common.{◌≡◌, ℕ, List, [], ◌∷◌, Option, Some, IfSome, sym, ap, ◌∙◌, subst, Bool, IsTrue, ◌↔◌, ◌≤◌, ◌<◌, length, get_or, arith}
+use Rattle.std.proofs.Common.{◌≡◌, ℕ, List, [], ◌∷◌, map, Option, Some, None, IfSome, refl, sym, ap, ◌∙◌, subst, Bool, IsTrue, ◌↔◌, ◌≤◌, ◌<◌, length, get_or, arith}
 use Rattle.std.specs.Str.{bytes_eq}
 use Rattle.std.proofs.lemmas.Slice.Eq.{bytes_eq-Decides}
 use Rattle.outside_traits.specs.Causes.{Rose}
-use Rattle.replay_script.specs.Line.{Line}
-use Rattle.replay_script.specs.Script.{Says, reading_of, words_of, conn_of}
-use Rattle.replay_script.specs.declared.script.Script.{Script}
-use Rattle.b2_base.specs.declared.settings.Settings.{Settings}
-use Rattle.b2_server.specs.Answer.{IsAnswered, Replies}
-use Rattle.b2_server.specs.Store.{fixed_store}
-use Rattle.b2_server.specs.Run.{shown, IsOutput, SourceCause, SinkCause, IsNotUsage, IsNotBadLine, IsOkOrMemory}
+use Rattle.outside_traits.specs.declared.link.Event.{Event}
+use Rattle.outside_traits.specs.declared.link.SentPiece.{SentPiece}
+use Rattle.event_script.specs.Line.{Line}
+use Rattle.event_script.specs.Script.{ReadsScript, Says, timed_of, words_of, script_words, script_events, script_readings}
+use Rattle.event_script.specs.Shown.{output_of}
+use Rattle.event_script.specs.declared.script.Script.{Script}
+use Rattle.event_script.specs.declared.script.Timed.{Timed}
+use Rattle.b2_server.specs.Run.{Sends, SendsFor, HasOutput, SourceCause, SinkCause, IsNotUsage, IsNotBadLine, IsOkOrMemory}
 use Rattle.b2_server.specs.declared.run.Status.{Status}
 use Rattle.b2_server.specs.declared.run.Status.TheVariants as status
 
-output_says : (script : Script) (lines : List Line) (settings : Settings) (reply : Option (List ℕ)) (output : List ℕ) → Says script lines → settings ≡ fixed_store
-    → Replies settings script.words.items script.head.items reply → output ≡ shown script.conn reply → IsOutput lines output
-output_says script lines settings reply output says same (answer, answered, replied) is =
-    let by_store : Settings → Type 0 = λ s. IsAnswered s (reading_of lines) script.words.items script.head.items answer in
-    let by_words : List ℕ → Type 0 = λ words. IsAnswered fixed_store (reading_of lines) words script.head.items answer in
-    let by_head : List ℕ → Type 0 = λ head. IsAnswered fixed_store (reading_of lines) (words_of lines) head answer in (
-      answer,
-      subst by_head says.head (subst by_words says.words (subst by_store same (answered (reading_of lines)))),
-      is ∙ ap (λ c. shown c reply) says.conn ∙ ap (shown (conn_of lines)) replied,
-    )
+-- what a script's events send is sent for its lines
+sends_for : (script : Script) (lines : List Line) (sent : List SentPiece) → Says script lines → Sends (script_words script) (script_events script) (script_readings script) sent → SendsFor lines sent
+sends_for script lines sent says is =
+    let by_words : List ℕ → Type 0 = λ words. Sends words (script_events script) (script_readings script) sent in
+    let by_events : List Event → Type 0 = λ events. Sends (words_of lines) events (script_readings script) sent in
+    let by_readings : List ℕ → Type 0 = λ readings. Sends (words_of lines) (map (λ (t : Timed). t.event) (timed_of lines)) readings sent in
+    subst by_readings says.readings (subst by_events says.events (subst by_words says.words is))
 
--- the same, where words and head are lent
-pub lent_says : (script : Script) (lines : List Line) (settings : Settings) (words bytes : List ℕ) (reply : Option (List ℕ)) (output : List ℕ) → Says script lines → settings ≡ fixed_store
-    → words ≡ script.words.items → bytes ≡ script.head.items → Replies settings words bytes reply → output ≡ shown script.conn reply → IsOutput lines output
-lent_says script lines settings words bytes reply output says same is_words is_bytes replies is =
-    let by_words : List ℕ → Type 0 = λ ws. Replies settings ws bytes reply in
-    let by_bytes : List ℕ → Type 0 = λ bs. Replies settings script.words.items bs reply in
-    output_says script lines settings reply output says same (subst by_bytes is_bytes (subst by_words is_words replies)) is
+-- what is known of a script's bytes, and what was sent, is the output
+pub leaves_output : (left : Option (List ℕ)) (script : Script) (sent : List SentPiece) (Q : List ℕ → Type 0) → IfSome left (λ bytes. (lines : List Line) × ReadsScript bytes lines × Says script lines)
+    → Sends (script_words script) (script_events script) (script_readings script) sent → Q (output_of sent) → IfSome left (λ bytes. (output : List ℕ) × HasOutput bytes output × Q output)
+leaves_output None script sent Q known is q = tt
+leaves_output (Some bytes) script sent Q (lines, written, says) is q = (output_of sent, (lines, written, (sent, sends_for script lines sent says is, refl)), q)
 
 -- no fault is left where no count rose and the script is in the grammar
 pub completes : (result : Status) (source_before source_now sink_before sink_now : ℕ) → IsNotUsage result → IsNotBadLine result

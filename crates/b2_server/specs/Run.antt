@@ -1,13 +1,18 @@
 -- What a run of the program does, from the script's bytes to the output's bytes.
-use Rattle.std.specs.Prelude.{◌≡◌, ℕ, List, [], ◌∷◌, ◌++◌, Option, Some, None, length, codes, decimal}
+use Rattle.std.specs.Prelude.{◌≡◌, ℕ, List, [], ◌∷◌, Option, map, codes}
 use Rattle.std.specs.Io.KnownBytes.{Appends}
 use Rattle.outside_traits.specs.Causes.{Rose}
 use Rattle.outside_traits.specs.Bytes.{AppendsFront}
-use Rattle.replay_script.specs.Line.{Line}
-use Rattle.replay_script.specs.Script.{ReadsScript, HasFirstWrong, reading_of, head_of, words_of, conn_of}
-use Rattle.b2_types.specs.declared.answer.AnswerOf.{AnswerOf}
-use Rattle.b2_server.specs.Answer.{IsAnswered, sent_of}
-use Rattle.b2_server.specs.Store.{fixed_store}
+use Rattle.outside_traits.specs.declared.link.Event.{Event}
+use Rattle.outside_traits.specs.declared.link.SentPiece.{SentPiece}
+use Rattle.event_script.specs.Line.{Line}
+use Rattle.event_script.specs.Script.{ReadsScript, HasFirstWrong, timed_of, words_of}
+use Rattle.event_script.specs.Shown.{output_of}
+use Rattle.served_world.specs.World.{World, start}
+use Rattle.served_world.specs.Served.{IsServed, IsShown}
+use Rattle.event_loop.specs.Turns.{HasRun}
+use Rattle.b2_server.specs.Answer.{reads}
+use Rattle.b2_server.specs.Store.{fixed_store, opened_store}
 use Rattle.b2_server.specs.declared.run.Status.{Status}
 use Rattle.b2_server.specs.declared.run.Status.TheVariants as status
 
@@ -15,20 +20,27 @@ use Rattle.b2_server.specs.declared.run.Status.TheVariants as status
 abbrev pub IsReplay : List (List ℕ) → Type 0
 IsReplay words = words ≡ codes "replay" ∷ []
 
--- what is shown of a connection: nothing where nothing is sent; else the reply, which is sent whole and in
--- one piece, and that the connection was then closed
-abbrev pub shown : ℕ → Option (List ℕ) → List ℕ
-shown conn None = []
-shown conn (Some reply) = codes "sent " ++ decimal conn ++ codes " " ++ decimal (length reply) ++ 10 ∷ reply ++ 10 ∷ codes "close " ++ decimal conn ++ 10 ∷ []
+-- The server begins with the store that was opened once, and is given these random words: the events, each at
+-- its reading, are a run in which this is sent. (This word does not unfold by itself.)
+unfoldable pub Sends : List ℕ → List Event → List ℕ → List SentPiece → Type 0
+Sends words events readings sent = HasRun reads (start (opened_store fixed_store) words) events readings sent
 
--- the output for a script of these lines shows what is answered to the bytes of its connection
+-- this is sent for a script of these lines
+abbrev pub SendsFor : List Line → List SentPiece → Type 0
+SendsFor lines sent = Sends (words_of lines) (map (λ t. t.event) (timed_of lines)) (map (λ t. t.reading) (timed_of lines)) sent
+
+-- the output for it shows what is sent
 abbrev pub IsOutput : List Line → List ℕ → Type 0
-IsOutput lines output =
-    (answer : Option (AnswerOf (List ℕ))) × IsAnswered fixed_store (reading_of lines) (words_of lines) (head_of lines) answer × (output ≡ shown (conn_of lines) (sent_of answer))
+IsOutput lines output = (sent : List SentPiece) × SendsFor lines sent × (output ≡ output_of sent)
 
 -- the bytes are a script, and this is the output for it
 abbrev pub HasOutput : List ℕ → List ℕ → Type 0
 HasOutput bytes output = (lines : List Line) × ReadsScript bytes lines × IsOutput lines output
+
+-- what is sent is what a server sends, by the statement that knows nothing of events
+abbrev pub IsServedOutput : List ℕ → List ℕ → Type 0
+IsServedOutput bytes output =
+    (lines : List Line) × ReadsScript bytes lines × (w : World) × IsServed reads (opened_store fixed_store) (words_of lines) w × IsShown w × (output ≡ output_of w.sends)
 
 -- What a run that ends so says of the script's bytes, and of what the sink held before and holds now.
 abbrev pub Leaves : List ℕ → Option (List ℕ) → Option (List ℕ) → Status → Type 0

@@ -1,25 +1,22 @@
 //! What an authorize call comes to.
 
-ghost use Rattle.std.specs.Prelude.{◌≡◌, ◌↔◌, IsTrue, IfOk, slice_index};
+ghost use Rattle.std.specs.Prelude.{◌≡◌, ◌↔◌, ℕ, List, IsTrue, IfOk};
 ghost use Rattle.sha2.specs.Sha256.{sha256};
 ghost use Rattle.b2_base.specs.Failure.{IfFault};
 ghost use Rattle.b2_types.specs.declared.answer.AnswerOf.TheVariants as answer;
+ghost use Rattle.b2_types.specs.declared.call.Call.TheVariants.{AuthorizeAccount};
 ghost use Rattle.b2_types.specs.declared.shown.Shown.TheVariants as shown;
-ghost use Rattle.b2_server.specs.Answer.{Authorizes};
+ghost use Rattle.b2_model.specs.Run.{Progress};
+ghost use Rattle.b2_server.specs.Answer.{Tells};
+ghost use Rattle.b2_server.specs.Store.{IsAt, master_account};
 
+use crate::store::FirstStore;
 use app_keys::has_hash;
-use auth_grants::token_text;
-use b2_base::{List, Or, Settings, Text};
-use b2_types::{Authorize, Credentials, Fault, ShownAccount};
+use auth_grants::SerialEnd;
+use b2_base::{List, Memory, Or, Settings, Text};
+use b2_types::{ApiVersion, Authorize, Credentials, Fault, ShownAccount};
 use rule_table::{CapSet, FaultKind};
 use std::alloc::Global;
-
-// The random word of this index; after the given words come zeros.
-fn word_at(words: &[u64], index: usize) -> u64
-    ensures { result ≡ slice_index words.now index }
-{
-    words.get(index).copied().unwrap_or(0)
-}
 
 // Whether these are the master key's id and secret.
 fn is_master(settings: &Settings, credentials: &Credentials) -> bool
@@ -30,27 +27,17 @@ fn is_master(settings: &Settings, credentials: &Credentials) -> bool
         && has_hash(&settings.secret_hash, credentials.secret.get().as_bytes())
 }
 
-/// The account that the call gives a token for, in a store that was opened once and has given none yet.
-pub(crate) fn authorize(
+// What the master key is shown with its token.
+fn account(
     alloc: Global,
+    version: ApiVersion,
     settings: &Settings,
-    words: &[u64],
-    call: &Authorize,
-) -> Result<ShownAccount, Or<Fault>>
-    ensures given { IfOk result
-        (λ a. Authorizes settings.now words.now call.now (answer.Json (shown.Account a))) }
-    ensures refused { IfFault result
-        (λ f. Authorizes settings.now words.now call.now (answer.Refused f)) }
+    token: Text,
+) -> Result<ShownAccount, Memory>
+    ensures { IfOk result (λ a. a ≡ master_account version settings.now token) }
 {
-    let Some(credentials) = &call.credentials else {
-        return Err(Or::Fault(Fault::plain(FaultKind::P1)));
-    };
-    if !is_master(settings, credentials) {
-        return Err(Or::Fault(Fault::plain(FaultKind::P2)));
-    }
-    let token = token_text(alloc, 1, 1, word_at(words, 0), word_at(words, 1))?;
     Ok(ShownAccount {
-        version: call.version,
+        version,
         account: Text::copy(alloc, settings.account.get())?,
         token,
         url: Text::copy(alloc, settings.url.get())?,
@@ -60,4 +47,37 @@ pub(crate) fn authorize(
         prefix: Text::of(String::new(alloc)),
         end: None,
     })
+}
+
+impl FirstStore {
+    /// The account that the call gives a token for, at this reading of the clock. After `Memory` the
+    /// store is not used again.
+    pub(crate) fn authorize(
+        &mut self,
+        alloc: Global,
+        reading: u64,
+        call: &Authorize,
+    ) -> Result<ShownAccount, Or<Fault>>
+        ensures given { IfOk result (λ a. (P : Progress (List ℕ)) → IsAt self.old P.state P.words
+            → Tells self.new P reading (AuthorizeAccount call.now)
+            (answer.Json (shown.Account a))) }
+        ensures refused { IfFault result (λ f. (P : Progress (List ℕ))
+            → IsAt self.old P.state P.words
+            → Tells self.new P reading (AuthorizeAccount call.now) (answer.Refused f)) }
+    {
+        let t = self.begin(reading);
+        let Some(credentials) = &call.credentials else {
+            return Err(Or::Fault(Fault::plain(FaultKind::P1)));
+        };
+        if !is_master(&self.settings, credentials) {
+            return Err(Or::Fault(Fault::plain(FaultKind::P2)));
+        }
+        let token = match self.new_token(alloc, t) {
+            Ok(token) => token,
+            Err(Or::Memory) => return Err(Or::Memory),
+            Err(Or::Fault(SerialEnd)) => return Err(Or::Fault(Fault::plain(FaultKind::Cap))),
+        };
+        let account = account(alloc, call.version, &self.settings, token)?;
+        Ok(account)
+    }
 }

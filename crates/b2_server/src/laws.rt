@@ -1,21 +1,24 @@
-//! Laws on what is answered and shown.
+//! Laws on what is sent and shown.
 
 ghost use Rattle.std.specs.Prelude.{◌≡◌, ℕ, List};
-ghost use Rattle.std.specs.Prelude.{Option};
-ghost use Rattle.b2_base.specs.declared.settings.Settings.{Settings};
-ghost use Rattle.b2_types.specs.declared.answer.AnswerOf.{AnswerOf};
-ghost use Rattle.b2_server.specs.Answer.{IsAnswered};
-ghost use Rattle.b2_server.specs.Run.{HasOutput};
+ghost use Rattle.served_world.specs.Laws.{AreOne};
+ghost use Rattle.b2_server.specs.Answer.{reads};
+ghost use Rattle.b2_server.specs.Run.{HasOutput, IsServedOutput};
 
-use replay_script::one_first_wrong_line;
+use event_script::one_first_wrong_line;
 
-/// The bytes of a connection have one answer at most, and a script one output.
+/// A request is one call at most, and a script has one output.
 pub fn one_output()
-    ensures answer { (settings : Settings) (reading : ℕ) (words bytes : List ℕ)
-        (a b : Option (AnswerOf (List ℕ))) → IsAnswered settings reading words bytes a
-        → IsAnswered settings reading words bytes b → a ≡ b }
+    ensures request { AreOne reads }
     ensures output { (bytes first second : List ℕ) → HasOutput bytes first
         → HasOutput bytes second → first ≡ second }
 {
     one_first_wrong_line();
 }
+
+/// A script's output shows what a server sends by the statement that knows nothing of events: each
+/// connection was sent a front of the replies to its requests, each of them a refusal of its form or
+/// the machine's answer to a step of its own, and nothing else was sent.
+pub fn served_output()
+    ensures { (bytes output : List ℕ) → HasOutput bytes output → IsServedOutput bytes output }
+{}

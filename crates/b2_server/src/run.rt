@@ -2,15 +2,16 @@
 
 ghost use Rattle.std.specs.Prelude.{◌≡◌, ◌↔◌, ℕ, List, Some, IsTrue, IfOk, IfSome};
 ghost use Rattle.outside_traits.specs.Causes.{Rose};
-ghost use Rattle.replay_script.specs.Line.{Line};
-ghost use Rattle.replay_script.specs.Script.{ReadsScript, HasFirstWrong, Says};
-ghost use Rattle.b2_server.specs.Run.{IsReplay, IsOutput, IsNotUsage, IsNotBadLine, CallsWrong, Leaves, SourceCause, SinkCause, Quiet, IsOkOrMemory};
+ghost use Rattle.outside_traits.specs.Memory.{link_sent};
+ghost use Rattle.event_script.specs.Line.{Line};
+ghost use Rattle.event_script.specs.Script.{ReadsScript, HasFirstWrong, script_events, script_readings, script_words};
+ghost use Rattle.b2_server.specs.Run.{IsReplay, Sends, IsNotUsage, IsNotBadLine, CallsWrong, Leaves, SourceCause, SinkCause, Quiet, IsOkOrMemory};
 
-use crate::reply::{output, reply_to};
-use crate::store::fixed_settings;
+use crate::store::FirstStore;
 use b2_base::{Memory, Or, Text};
-use outside_traits::{Failed, Sink, Source, write_all};
-use replay_script::{Script, ScriptFault, read_script};
+use event_loop::serve;
+use event_script::{Script, ScriptFault, ScriptLink, read_script, write_sent};
+use outside_traits::{Failed, Sink, Source};
 use std::alloc::Global;
 
 /// How a run ended.
@@ -29,20 +30,20 @@ pub enum Status {
     BadLine(u64),
 }
 
-// The output for a script.
-fn output_for(alloc: Global, script: &Script) -> Result<Vec<u8>, Memory>
-    ensures { IfOk result (λ v. (lines : List Line) → Says script.now lines
-        → IsOutput lines v.items) }
+// Serves the script's events, and answers the link with what was sent.
+fn serve_script(alloc: Global, script: &Script) -> Result<ScriptLink, Memory>
+    ensures { IfOk result (λ link. Sends (script_words script.now) (script_events script.now)
+        (script_readings script.now) (link_sent link)) }
 {
-    let settings = fixed_settings(alloc)?;
-    let Some(reply) = reply_to(alloc, &settings, &script.words, &script.head)? else {
-        return Ok(Vec::new(alloc));
-    };
-    let output = output(alloc, script.conn, &reply)?;
-    Ok(output)
+    let words = script.words(alloc)?;
+    let mut store = FirstStore::new(alloc, words)?;
+    let mut link = script.link(alloc)?;
+    let mut clock = script.clock(alloc)?;
+    serve(alloc, &mut store, &mut link, &mut clock, script.turns())?;
+    Ok(link)
 }
 
-// Reads the script, serves it and writes the output.
+// Reads the script, serves it and writes what was sent.
 fn replay<S: Source, K: Sink>(alloc: Global, script: &mut S, out: &mut K) -> Status
     ensures known { IsNotUsage result }
     ensures leaves { IfSome (S.left script.old)
@@ -61,10 +62,10 @@ fn replay<S: Source, K: Sink>(alloc: Global, script: &mut S, out: &mut K) -> Sta
         Err(Or::Fault(ScriptFault::SourceFault)) => return Status::SourceFault,
         Err(Or::Fault(ScriptFault::BadLine(number))) => return Status::BadLine(number),
     };
-    let Ok(output) = output_for(alloc, &script) else {
+    let Ok(link) = serve_script(alloc, &script) else {
         return Status::Memory;
     };
-    match write_all(out, &output) {
+    match write_sent(&link, out) {
         Ok(()) => Status::Ok,
         Err(Failed) => Status::SinkFault,
     }
@@ -79,7 +80,7 @@ fn is_replay(words: &[Text]) -> bool
     }
 }
 
-/// All that the program does: with the word `replay` it reads the script, serves its request and writes
+/// All that the program does: with the word `replay` it reads the script, serves its events and writes
 /// what was sent.
 pub fn run_b2d<S: Source, K: Sink>(
     alloc: Global,

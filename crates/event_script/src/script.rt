@@ -1,6 +1,6 @@
 //! What a script says.
 
-ghost use Rattle.std.specs.Prelude.{◌≡◌, [], ◌∷◌, ◌++◌, All, OnOk, IfOk};
+ghost use Rattle.std.specs.Prelude.{◌≡◌, [], ◌∷◌, ◌++◌, length, All, OnOk, IfOk};
 ghost use Rattle.outside_traits.specs.Links.{IsShort};
 
 use b2_base::{Blob, Memory};
@@ -101,6 +101,15 @@ impl Script {
             events.push(copy_of(alloc, &timed.event)?)?;
         }
         Ok(events)
+    }
+
+    /// How many turns it has: an event each, and the reading at it.
+    pub fn turns(&self) -> usize
+        ensures events { result ≡ length (script_events self.now) }
+        ensures readings { result ≡ length (script_readings self.now) }
+    {
+        let timed: &[Timed] = &self.timed;
+        timed.len()
     }
 
     /// A link that gives the script's events, after which comes `Stop`. Each send takes all its bytes,
