@@ -28,7 +28,7 @@ use Rattle.b2_model.specs.Run.{of_bytes}
 use Rattle.b2_server.specs.Store.{given_store, master_account}
 
 -- what is made of a call without a token
-pub asked : State (List ℕ) → ℕ → List ℕ → Call → Outcome (List ℕ)
+unfoldable pub asked : State (List ℕ) → ℕ → List ℕ → Call → Outcome (List ℕ)
 asked M t words c = ask of_bytes M t words None c
 
 -- a refusal, and what the master key is given
