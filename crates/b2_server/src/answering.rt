@@ -22,8 +22,7 @@ fn text_of(alloc: Global, answer: AnswerOf<Blob>, stay: bool) -> Result<Blob, Me
     ensures text { IfOk result (λ text. text ≡ reply_of answer stay) }
     ensures some { IfOk result (λ text. 0 < length text) }
 {
-    let text = reply_text(alloc, &answer, stay)?;
-    Ok(text)
+    reply_text(alloc, &answer, stay)
 }
 
 impl FirstStore {
