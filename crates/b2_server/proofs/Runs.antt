@@ -10,9 +10,27 @@ use Rattle.event_script.specs.Script.{ReadsScript, Says, timed_of, words_of, scr
 use Rattle.event_script.specs.Shown.{output_of}
 use Rattle.event_script.specs.declared.script.Script.{Script}
 use Rattle.event_script.specs.declared.script.Timed.{Timed}
+use Rattle.b2_model.specs.State.{State}
+use Rattle.served_world.specs.World.{start}
+use Rattle.event_loop.specs.Turns.{HasRun}
+use Rattle.b2_server.specs.Store.{fixed_store, opened_store, IsAt}
+use Rattle.b2_server.specs.Answer.{reads}
+use Rattle.b2_server.specs.declared.store.FirstStore.{FirstStore}
 use Rattle.b2_server.specs.Run.{Sends, SendsFor, HasOutput, SourceCause, SinkCause, IsNotUsage, IsNotBadLine, IsOkOrMemory}
 use Rattle.b2_server.specs.declared.run.Status.{Status}
 use Rattle.b2_server.specs.declared.run.Status.TheVariants as status
+
+-- a run from the store that was opened is what its script sends
+pub run_sends : (script : Script) (store : FirstStore) (words readings : List ℕ) (events : List Event) (sent : List SentPiece) → words ≡ script_words script → events ≡ script_events script → readings ≡ script_readings script
+    → IsAt store (opened_store fixed_store) words → ((M : State (List ℕ)) (ws : List ℕ) → IsAt store M ws → HasRun reads (start M ws) events readings sent)
+    → Sends (script_words script) (script_events script) (script_readings script) sent
+unfolding Sends
+run_sends script store words readings events sent is_words are_events are_readings at runs =
+    let M = opened_store fixed_store in
+    let by_words : List ℕ → Type 0 = λ ws. HasRun reads (start M ws) events readings sent in
+    let by_events : List Event → Type 0 = λ es. HasRun reads (start M (script_words script)) es readings sent in
+    let by_readings : List ℕ → Type 0 = λ rs. HasRun reads (start M (script_words script)) (script_events script) rs sent in
+    subst by_readings are_readings (subst by_events are_events (subst by_words is_words (runs M words at)))
 
 -- what a script's events send is sent for its lines
 sends_for : (script : Script) (lines : List Line) (sent : List SentPiece) → Says script lines → Sends (script_words script) (script_events script) (script_readings script) sent → SendsFor lines sent
