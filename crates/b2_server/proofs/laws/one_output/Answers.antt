@@ -1,8 +1,8 @@
-use Rattle.b2_server.proofs.Once.{one_answer, one_shown}
+use Rattle.b2_server.proofs.Once.{one_request, one_shown}
 use Rattle.b2_server.proofs.laws.one_output.Goals as goal
 
-pub returns-clause-answer : goal.returns-clause-answer
-returns-clause-answer c = one_answer
+pub returns-clause-request : goal.returns-clause-request
+returns-clause-request c = one_request
 
 pub returns-clause-output : goal.returns-clause-output
 returns-clause-output c = one_shown c.one_first_wrong_line.ensures.lines

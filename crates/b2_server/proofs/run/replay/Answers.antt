@@ -1,8 +1,8 @@
 use Rattle.std.proofs.Common.{◌≡◌, ℕ, List, Option, IfSome, Err, subst, sym, ◌∙◌, ap}
 use Rattle.b2_base.specs.declared.failure.Or.{Or}
 use Rattle.b2_base.specs.declared.failure.Or.TheVariants as or
-use Rattle.replay_script.specs.Script.{HasFirstWrong, CallsWrong}
-use Rattle.replay_script.specs.declared.script.ScriptFault.{ScriptFault}
+use Rattle.event_script.specs.Script.{HasFirstWrong, CallsWrong}
+use Rattle.event_script.specs.declared.script.ScriptFault.{ScriptFault}
 use Rattle.b2_server.proofs.run.replay.Goals as goal
 
 abbrev called : Option (List ℕ) → Or ScriptFault → Type 0
