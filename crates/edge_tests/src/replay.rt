@@ -368,7 +368,10 @@ fn wrong_lines(rt: HostRuntime) -> Result<(), Fail> {
         ("open 1\nline 1 GET / HTTP/1.1\nready 1\n", 4),
         ("open 1\nline 1 GET / HTTP/1.1\nline 1 \nline 1 \n", 5),
         ("open 1\nline 1 GET / HTTP/1.1\nline 1 \nready 2\n", 5),
-        ("open 1\nline 1 GET / HTTP/1.1\nline 1 \nready 1\nstop\nstop\n", 6),
+        (
+            "open 1\nline 1 GET / HTTP/1.1\nline 1 \nready 1\nstop\nstop\n",
+            6,
+        ),
     ];
     for (script, line) in rows {
         let (status, sink) = replay(alloc, script, &[], &[])?;
