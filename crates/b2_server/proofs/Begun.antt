@@ -1,17 +1,16 @@
 -- A step begins: the store is at its moment, after the pass of its day.
-use Rattle.std.proofs.Common.{◌≡◌, ℕ, ◌+◌, ◌/◌, nat_lt, nat_le, cond, Bool, true, false, not, List, [], map, filter, refl, sym, ap, ◌∙◌, subst}
+use Rattle.std.proofs.Common.{◌≡◌, ℕ, ◌+◌, ◌/◌, nat_lt, nat_le, cond, Bool, true, false, not, List, map, filter, sym, ap, ◌∙◌, subst}
 use Rattle.b2_base.specs.declared.extent.Extent.{Extent}
 use Rattle.b2_base.specs.declared.settings.Settings.{Settings}
 use Rattle.outside_traits.specs.Lists.{words_ahead}
-use Rattle.outside_traits.specs.declared.words.ListWords.{ListWords}
 use Rattle.b2_types.specs.declared.key.Grant.{Grant}
 use Rattle.b2_model.specs.State.{State}
 use Rattle.b2_model.specs.Kinds.{day}
 use Rattle.b2_model.specs.Pass.{without_old_grants}
 use Rattle.b2_model.specs.Ask.{at_moment}
-use Rattle.b2_model.specs.Run.{with_pass, with_daily_pass}
-use Rattle.auth_grants.specs.Tokens.{Tokens, tokens, tokens_of, no_tokens}
-use Rattle.b2_server.specs.Store.{fixed_store, opened_store, given_store, idle, IsAt, begun_at}
+use Rattle.b2_model.specs.Run.{with_pass}
+use Rattle.auth_grants.specs.Tokens.{Tokens, tokens, tokens_of}
+use Rattle.b2_server.specs.Store.{given_store, idle, IsAt, begun_at}
 use Rattle.b2_server.specs.declared.store.FirstStore.{FirstStore}
 
 -- the tokens that a pass keeps
@@ -22,18 +21,6 @@ swept t grants = filter (λ g. not (nat_le (g.end + day) t)) grants
 pub held_as : (a b : Settings) (now later kept : ℕ) (pass_day today serial count : ℕ) (grants : List Grant) → a ≡ b → now ≡ later → pass_day ≡ today → serial ≡ count
     → given_store {C = List ℕ} a now kept pass_day serial grants ≡ given_store b later kept today count grants
 held_as a b now later kept pass_day today serial count grants settings moment days serials = λ i. given_store (settings i) (moment i) kept (days i) (serials i) grants
-
-pub at_first : (s : FirstStore) (words : ListWords) → s.settings ≡ fixed_store → s.moment ≡ 0 → s.pass_day ≡ 0 → s.tokens ≡ no_tokens → s.words ≡ words → IsAt s (opened_store fixed_store) (words_ahead words)
-at_first s words settings moment pass_day none same =
-    let serial = ap (λ (T : Tokens). T.serial) none in
-    let P : Tokens → Type 0 = λ T. T ≡ tokens T.serial (map idle []) in
-    record {
-      kept = 0;
-      grants = [];
-      state = held_as fixed_store s.settings 0 s.moment 0 0 s.pass_day 0 s.tokens.serial [] (sym settings) (sym moment) (sym pass_day) (sym serial);
-      held = subst P (sym none) refl;
-      left = ap words_ahead (sym same);
-    }
 
 -- ---- on a store that gave tokens alone
 

@@ -14,8 +14,6 @@ use Rattle.call_paths.specs.declared.routes.Route.{Route}
 use Rattle.b2_types.specs.declared.call.Credentials.{Credentials}
 use Rattle.b2_types.specs.declared.call.Call.{Call}
 use Rattle.b2_types.specs.declared.call.Call.TheVariants as calls
-use Rattle.b2_types.specs.declared.upload.UploadCall.{UploadCall}
-use Rattle.http_edge.specs.declared.head.Head.{Head}
 use Rattle.api_json.specs.Call.{GivesPair, HasCredentials}
 use Rattle.api_json.proofs.Pairs.{one_pair}
 use Rattle.b2_model.specs.State.{State}
@@ -29,7 +27,7 @@ use Rattle.served_world.proofs.Shown.{run_shown}
 use Rattle.event_loop.specs.Serving.{all_taken}
 use Rattle.event_loop.specs.Turns.{RunsWhole, HasRun}
 use Rattle.b2_server.specs.Store.{fixed_store, opened_store}
-use Rattle.b2_server.specs.Answer.{IsCallOf, IsCall, reads}
+use Rattle.b2_server.specs.Answer.{IsCallOf, reads}
 use Rattle.b2_server.specs.Run.{Sends, HasOutput, IsServedOutput}
 
 -- ---- a request is one call

@@ -1,8 +1,7 @@
 -- A token that is given.
-use Rattle.std.proofs.Common.{◌≡◌, ℕ, ◌+◌, ◌-◌, ◌^◌, ◌==◌, true, false, List, [], ◌∷◌, ◌++◌, map, drop, slice_index, Option, Some, refl, sym, ap, ◌∙◌, subst}
+use Rattle.std.proofs.Common.{◌≡◌, ℕ, ◌+◌, ◌-◌, ◌^◌, ◌==◌, true, false, List, [], ◌∷◌, ◌++◌, map, drop, slice_index, Some, refl, sym, ap, ◌∙◌}
 use Rattle.std.proofs.lemmas.List.{map-append}
 use Rattle.b2_base.specs.declared.extent.Extent.{Extent}
-use Rattle.b2_base.specs.declared.settings.Settings.{Settings}
 use Rattle.outside_traits.specs.Lists.{words_ahead}
 use Rattle.b2_types.specs.declared.key.Grant.{Grant}
 use Rattle.b2_types.specs.declared.kinds.TokenKind.TheVariants as kind

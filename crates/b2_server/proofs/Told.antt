@@ -1,12 +1,10 @@
 -- A step of the machine that is an authorize call, and the store after it.
-use Rattle.std.proofs.Common.{◌≡◌, ℕ, Bool, true, false, List, drop, Option, Some, None, refl, sym, ap, ◌∙◌, subst}
+use Rattle.std.proofs.Common.{◌≡◌, ℕ, Bool, true, false, List, drop, Some, None, refl, sym, ap, ◌∙◌, subst}
 use Rattle.sha2.specs.Sha256.{sha256}
-use Rattle.b2_base.specs.declared.settings.Settings.{Settings}
 use Rattle.rule_table.specs.declared.fault.FaultKind.{FaultKind}
 use Rattle.rule_table.specs.declared.fault.FaultKind.TheVariants as kind
 use Rattle.rule_table.specs.declared.call.CallName.{CallName}
 use Rattle.rule_table.specs.declared.call.CallName.TheVariants as calls
-use Rattle.b2_types.specs.declared.kinds.ApiVersion.{ApiVersion}
 use Rattle.b2_types.specs.declared.kinds.ApiVersion.TheVariants as version
 use Rattle.b2_types.specs.declared.fault.Fault.{Fault}
 use Rattle.b2_types.specs.declared.call.Credentials.{Credentials}
@@ -20,19 +18,16 @@ use Rattle.b2_types.specs.declared.answer.AnswerOf.TheVariants as answer
 use Rattle.b2_types.specs.Fault.{plain}
 use Rattle.b2_model.specs.State.{State}
 use Rattle.b2_model.specs.Plan.{new_token, no_serial}
-use Rattle.b2_model.specs.Ask.{Outcome, with_grant, at_moment}
-use Rattle.b2_model.specs.AskKeys.{account_grant}
-use Rattle.b2_model.specs.Changes.{master_key}
+use Rattle.b2_model.specs.Ask.{Outcome, at_moment}
 use Rattle.b2_model.specs.Run.{Progress, moment, with_daily_pass, start_of}
 use Rattle.wire_forms.specs.declared.request.Request.{Request}
 use Rattle.call_paths.specs.declared.routes.Route.{Route}
-use Rattle.call_paths.specs.Path.{serves}
 use Rattle.http_edge.specs.declared.head.Head.{Head}
 use Rattle.http_edge.specs.Reply.{reply_of}
 use Rattle.api_json.specs.Call.{HasCredentials}
 use Rattle.event_loop.specs.Answering.{IsAnswer}
-use Rattle.b2_server.specs.Store.{given_store, IsAt, IsGranted, begun_at, granted, master_account}
-use Rattle.b2_server.specs.Answer.{IsCallOf, IsCallAt, IsCall, after_asking, told_to, Tells, IsTold}
+use Rattle.b2_server.specs.Store.{IsAt, IsGranted, begun_at, granted, master_account}
+use Rattle.b2_server.specs.Answer.{IsCallOf, IsCall, after_asking, told_to, Tells, IsTold}
 use Rattle.b2_server.specs.declared.store.FirstStore.{FirstStore}
 use Rattle.b2_server.proofs.FirstPath.{asked, refusal, giving, Gave, asks_none, asks_other, asks_full, asks_own}
 
@@ -150,12 +145,6 @@ told_of s P reading head call told named of_version has answers = record {
   read = named_call head.route.name head.route head.request call named of_version has;
   tells = answers;
 }
-
--- only an authorize call is served
-pub only_authorize : (v : ApiVersion) (name : CallName) → serves v name ≡ true → name ≡ calls.AuthorizeAccount
-only_authorize version.V3 calls.AuthorizeAccount served = refl
-only_authorize version.V3 other served = cc served
-only_authorize version.V4 other served = cc served
 
 pub is_answer : (s : FirstStore) (P : Progress (List ℕ)) (reading : ℕ) (head : Head) (body text : List ℕ) (told : AnswerOf (List ℕ)) → IsTold s P reading head told → text ≡ reply_of told head.request.stay
     → IsAnswer IsCall (IsAt s) P reading head body text

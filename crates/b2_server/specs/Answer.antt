@@ -6,7 +6,6 @@ use Rattle.b2_types.specs.declared.call.Credentials.{Credentials}
 use Rattle.b2_types.specs.declared.call.Call.{Call}
 use Rattle.b2_types.specs.declared.call.Call.TheVariants.{AuthorizeAccount}
 use Rattle.b2_types.specs.declared.answer.AnswerOf.{AnswerOf}
-use Rattle.b2_model.specs.State.{State}
 use Rattle.b2_model.specs.Run.{Progress, asks, step, answer_to, of_bytes}
 use Rattle.wire_forms.specs.declared.request.Request.{Request}
 use Rattle.call_paths.specs.declared.routes.Route.{Route}

@@ -1,5 +1,5 @@
 -- The store that is served until stores are kept on a disk, and where the version machine is then.
-use Rattle.std.specs.Prelude.{◌≡◌, ◌^◌, ◌+◌, ℕ, List, [], ◌∷◌, ◌++◌, Option, None, Some, codes, map, drop, false}
+use Rattle.std.specs.Prelude.{◌≡◌, ◌^◌, ℕ, List, [], None, Some, codes, map, drop, false}
 use Rattle.sha2.specs.Sha256.{sha256}
 use Rattle.b2_base.specs.declared.settings.Settings.{Settings}
 use Rattle.outside_traits.specs.Lists.{words_ahead}
