@@ -50,7 +50,8 @@ by_told before bytes got told acts k none same gives = subst (λ (a : Asked). Gi
 pub gives_seeking : (before : ℕ) (bytes : List ℕ) (k : Incoming) (n : ℕ) → HasFlags before nothing k → k.stage ≡ stage.Seeking n → n ≡ length bytes → k.bytes.items ≡ bytes → IsCut bytes NotYet → Gives before bytes nothing [] [] k
 gives_seeking before bytes k n flags at size kept cut =
     let none : IsCut (take n bytes) NotYet = subst (λ (l : List ℕ). IsCut l NotYet) (sym (take_all n bytes (omega (arith, size)))) cut in
-    let here : IsAt before bytes nothing (stage.Seeking n) k.head k.bytes.items = (refl, record { kept_is = kept; within = omega (arith, size); none = λ _. none }) in
+    let short = cut.0 in
+    let here : IsAt before bytes nothing (stage.Seeking n) k.head k.bytes.items = (refl, record { kept_is = kept; within = omega (arith, size); none = λ _. none; few = omega (arith, short) }) in
     record {
       new = nothing;
       asked = (NotYet, cut, refl);
@@ -78,15 +79,15 @@ is_read before bytes front rest end asked route head cut same request is after =
   rest_is = after;
 }
 
-pub gives_refused : (before : ℕ) (bytes : List ℕ) (k : Incoming) (fault : Fault) (kind : FaultKind) → HasFlags before nothing k → k.stage ≡ stage.Closed → fault ≡ plain kind → IsAsked before bytes (refused kind)
+pub gives_refused : (before : ℕ) (bytes : List ℕ) (k : Incoming) (fault : Fault) (kind : FaultKind) → HasFlags before nothing k → k.stage ≡ stage.Closed → k.bytes.items ≡ [] → fault ≡ plain kind → IsAsked before bytes (refused kind)
     → Gives before bytes nothing [] (act.Refuse fault ∷ []) k
-gives_refused before bytes k fault kind flags at same asked = record {
+gives_refused before bytes k fault kind flags at none same asked = record {
   new = refused kind;
   asked = asked;
   acts_are = ap (λ f. act.Refuse f ∷ []) same;
   reading = record {
     flags = record { before_is = flags.before_is; stay_is = flags.stay_is; upload_is = flags.upload_is };
-    at = subst (λ (s : Stage). IsAt before bytes (refused kind) s k.head k.bytes.items) (sym at) (asked, tt);
+    at = subst (λ (s : Stage). IsAt before bytes (refused kind) s k.head k.bytes.items) (sym at) (asked, tt, none);
   };
 }
 
@@ -234,5 +235,5 @@ gives_closed before got more told k reading at = closed told reading.flags (subs
           new = refused kind;
           asked = further;
           acts_are = refl;
-          reading = record { flags = flags; at = subst (λ (s : Stage). IsAt before (got ++ more) (refused kind) s k.head k.bytes.items) (sym at) (further, tt) };
+          reading = record { flags = flags; at = subst (λ (s : Stage). IsAt before (got ++ more) (refused kind) s k.head k.bytes.items) (sym at) (further, tt, is.2) };
         }

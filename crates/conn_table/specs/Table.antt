@@ -1,5 +1,5 @@
 -- The connections of the table, each as the talk that it is.
-use Rattle.std.specs.Prelude.{◌≡◌, ◌≢◌, ℕ, Option, Some, None, option_and_then, MatchOption, ⊤}
+use Rattle.std.specs.Prelude.{◌≡◌, ◌≢◌, ℕ, length, Option, Some, None, option_and_then, MatchOption, ⊤}
 use Rattle.std.specs.Ordering.{nat_cmp}
 use Rattle.std.specs.BTreeMap.{get, btree_map_len}
 use Rattle.conn_talk.specs.declared.pending.Pending.{Pending}
@@ -42,6 +42,15 @@ IsTalk t c a = IsIn a (conn_at t c)
 -- what is to be sent
 abbrev pub pending_at : {B : Type 0} → Conns B → ℕ → Option (Pending B)
 pending_at {B = B} t c = option_and_then (λ (k : Conn B). k.reply) (conn_at t c)
+
+-- how many bytes a connection keeps: those that came of a head, of the body of a call or after a request, as they
+-- came. A head that was read is kept in its parts.
+abbrev pub kept_of : {B : Type 0} → Option (Conn B) → ℕ
+kept_of None = 0
+kept_of (Some k) = length k.incoming.bytes.items
+
+abbrev pub kept_at : {B : Type 0} → Conns B → ℕ → ℕ
+kept_at t c = kept_of (conn_at t c)
 
 -- all other connections stay as they are
 abbrev pub KeepsOthers : {B : Type 0} → ℕ → Conns B → Conns B → Type 0

@@ -24,7 +24,7 @@ use std::mem;
 const LAST_REQUEST: u32 = 999;
 
 /// The most bytes after a request that are held while its reply is pending.
-const MOST_HELD: usize = 65_536;
+pub const MOST_HELD: usize = 65_536;
 
 /// How far a request has come.
 #[derive(Clone, Copy, Debug, PartialEq, Eq)]
@@ -297,6 +297,7 @@ impl Incoming {
     // All bytes that come do nothing.
     fn close(&mut self)
         ensures stage { self.new.stage ≡ Closed }
+        ensures bytes { self.new.bytes.items ≡ [] }
         ensures flags { SameFlags self.old self.new }
     {
         self.stage = Stage::Closed;

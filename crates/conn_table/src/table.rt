@@ -4,11 +4,13 @@ ghost use Rattle.std.specs.Prelude.{◌≡◌, ◌≤◌, ◌<◌, ◌+◌, ◌^
 ghost use Rattle.std.specs.Option.{is_some, option_copied};
 ghost use Rattle.b2_base.specs.Failure.{IfFault, UnlessFault};
 ghost use Rattle.conn_talk.specs.declared.pending.Pending.{Pending as TheReply};
+ghost use Rattle.conn_talk.specs.Asked.{nothing};
 ghost use Rattle.conn_talk.specs.Talk.{Talk, first_talk, TakesPiece, shown, size_of, with_sent, given_back, talk_after, asks_stay, is_uploading};
 ghost use Rattle.conn_table.specs.Ends.{closes};
-ghost use Rattle.conn_table.specs.Table.{conn_at, count_of, pending_at, IsTalk, KeepsOthers};
+ghost use Rattle.conn_table.specs.Table.{conn_at, count_of, kept_at, pending_at, IsTalk, KeepsOthers};
 
 use crate::conn::Conn;
+use crate::incoming::MOST_HELD;
 use b2_base::{ConnNum, Memory, Or};
 use conn_talk::{Act, Pending};
 use std::alloc::Global;
@@ -16,6 +18,9 @@ use std::collections::BTreeMap;
 
 /// The most connections that are open at once.
 const MOST_OPEN: usize = 32;
+
+/// The most bytes that a connection keeps of its request: those of a head and of the body of a call.
+pub const MOST_KEPT: usize = 1_064_960;
 
 /// As many connections are open as may be.
 #[derive(Clone, Copy, Debug, PartialEq, Eq)]
@@ -149,6 +154,22 @@ impl<B: Drop> Conns<B> {
     {
         let Conn { incoming: _, reply } = self.conns.remove(&c.get())?;
         reply
+    }
+
+    /// How many bytes the connection keeps of its request or after it. A head that was read is kept
+    /// in its parts beside them: with it, too, no more came of a request of which no act told.
+    pub fn kept(&self, c: ConnNum) -> usize
+        ensures size { result ≡ kept_at self.now c }
+        ensures request { (a : Talk B) → IsTalk self.now c (Some a) → result ≤ MOST_KEPT }
+        ensures behind { (a : Talk B) → IsTalk self.now c (Some a) → IsSome a.reply
+            → result ≤ MOST_HELD }
+        ensures came { (a : Talk B) → IsTalk self.now c (Some a) → a.reply ≡ None
+            → a.told ≡ nothing → length a.got ≤ MOST_KEPT }
+    {
+        match self.conns.get(&c.get()) {
+            Some(conn) => conn.incoming.bytes.len(),
+            None => 0,
+        }
     }
 
     /// Whether an act told the request of the connection, and its client asks for another one.

@@ -1,0 +1,20 @@
+//! What holds of each workload.
+
+ghost use Rattle.std.specs.Prelude.{◌≡◌, ◌+◌, ℕ};
+ghost use Rattle.b2_base.specs.BucketId.{bucket_id};
+ghost use Rattle.b2_model.specs.LiveGrant.{token_text};
+ghost use Rattle.workload.specs.Requests.{account_token, upload_token, bucket};
+ghost use Rattle.workload.specs.Workload.{workload, opened_in};
+
+/// The text of a workload of so many requests opens three connections more.
+pub fn one_connection_each()
+    ensures { (seed n : ℕ) → opened_in (workload seed n) ≡ n + 3 }
+{}
+
+/// What the requests name is known before the run: the tokens are those of the boot number 1, the
+/// serial numbers 1 and 2 and the random words 1 to 4, and the bucket is the first.
+pub fn tokens_are_known()
+    ensures account { account_token ≡ token_text 1 1 1 2 }
+    ensures upload { upload_token ≡ token_text 1 2 3 4 }
+    ensures bucket { bucket ≡ bucket_id 1 }
+{}
