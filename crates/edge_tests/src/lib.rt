@@ -15,4 +15,4 @@ mod replies;
 #[cfg(test)]
 mod script;
 #[cfg(test)]
-mod workload;
+mod workloads;

@@ -46,16 +46,16 @@ next_stands seed n i x y so_far more before is adds left same =
     ∙ ap (λ z. so_far ++ (timed_from 0 (map says (turn (i + 1) z)) ++ ahead z (i + 1) left)) is
     ∙ done
 
-last_stands : (seed n x : ℕ) (so_far : List Timed) → StandsAt seed n n x so_far → so_far ≡ timed_of (workload seed n)
-last_stands seed n x so_far is = sym (append-nil so_far) ∙ is 0 (omega arith)
+last_stands : (seed n i x : ℕ) (so_far : List Timed) → i ≡ n → StandsAt seed n i x so_far → so_far ≡ timed_of (workload seed n)
+last_stands seed n i x so_far end is = sym (append-nil so_far) ∙ is 0 (omega (arith, end))
 
 no_words : (x i n : ℕ) → flat_map word_part (map says (turns_after x i n ++ stop ∷ [])) ≡ []
 no_words x i zero = refl
 no_words x i (suc n) = no_words (next_number x) (i + 1) n
 
-pub says_so : (seed n x : ℕ) (s : Script) → StandsAt seed n n x s.timed.items → s.words.items ≡ 1 ∷ 2 ∷ 3 ∷ 4 ∷ [] → Says s (workload seed n)
-says_so seed n x s is words =
-    let timed = last_stands seed n x s.timed.items is in
+pub says_so : (seed n i x : ℕ) (s : Script) → i ≡ n → StandsAt seed n i x s.timed.items → s.words.items ≡ 1 ∷ 2 ∷ 3 ∷ 4 ∷ [] → Says s (workload seed n)
+says_so seed n i x s end is words =
+    let timed = last_stands seed n i x s.timed.items end is in
     let four : 1 ∷ 2 ∷ 3 ∷ 4 ∷ [] ≡ words_of (workload seed n) = ap (λ l. 1 ∷ 2 ∷ 3 ∷ 4 ∷ l) (sym (no_words seed 0 n)) in
     record { events = ap (map (λ t. t.event)) timed; readings = ap (map (λ t. t.reading)) timed; words = words ∙ four }
 
