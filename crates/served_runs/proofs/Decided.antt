@@ -20,7 +20,7 @@ both (inr none) b = inr (λ p. none p.0)
 pub either : {A B : Type 0} → Decided A → Decided B → Decided (A ⊎ B)
 either (inl a) b = inl (inl a)
 either (inr none) (inl b) = inl (inr b)
-either (inr none) (inr never) = inr (λ s. elim s [ | inl a ↦ none a | inr b ↦ never b ])
+either (inr none) (inr never) = inr (λ s. elim s [ inl a ↦ none a | inr b ↦ never b ])
 
 pub not_so : {A : Type 0} → Decided A → Decided (A → ⊥)
 not_so (inl a) = inr (λ none. none a)

@@ -125,15 +125,15 @@ has_route : (path : List ℕ) → Decided (HasRoute path)
 has_route path = as_well (either (is_of path V3) (is_of path V4)) into out
   where
     route_for : (v : ApiVersion) → IsOf path v → HasRoute path
-    route_for v (n, offered, (t, is)) = (record { name = n; version = v; target = t }, record { offered = offered; is = is })
+    route_for v (n, (offered, (t, is))) = (record { name = n; version = v; target = t }, record { offered = offered; is = is })
 
     into : IsOf path V3 ⊎ IsOf path V4 → HasRoute path
     into (inl is) = route_for V3 is
     into (inr is) = route_for V4 is
 
     by : (v : ApiVersion) (n : CallName) (t : Target) → offers v n ≡ true → IsPathOf path v t n → IsOf path V3 ⊎ IsOf path V4
-    by V3 n t offered is = inl (n, offered, (t, is))
-    by V4 n t offered is = inr (n, offered, (t, is))
+    by V3 n t offered is = inl (n, (offered, (t, is)))
+    by V4 n t offered is = inr (n, (offered, (t, is)))
 
     out : HasRoute path → IsOf path V3 ⊎ IsOf path V4
     out (route, is) = by route.version route.name route.target is.offered is.is
