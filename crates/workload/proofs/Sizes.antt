@@ -15,10 +15,10 @@ length_concat (part ∷ parts) = length-append part (concat parts) ∙ ap (λ n.
 -- a call with a body, whose length these digits say
 abbrev pub post_of : List ℕ → List ℕ → List ℕ → List ℕ
 post_of call digits body = concat (
-  codes "POST /b2api/v3/" ∷ call
-  ∷ codes " HTTP/1.1\r\nAuthorization: " ∷ account_token
-  ∷ codes "\r\nContent-Length: " ∷ digits
-  ∷ codes "\r\n\r\n" ∷ body ∷ [])
+    codes "POST /b2api/v3/" ∷ call
+    ∷ codes " HTTP/1.1\r\nAuthorization: " ∷ account_token
+    ∷ codes "\r\nContent-Length: " ∷ digits
+    ∷ codes "\r\n\r\n" ∷ body ∷ [])
 
 pub post_short : (call digits body v : List ℕ) → length call ≤ 64 → length digits ≤ 40 → length body ≤ 256 → v ≡ post_of call digits body → length v ≤ 1024
 post_short call digits body v one two three is =
@@ -28,11 +28,11 @@ post_short call digits body v one two three is =
 
 abbrev pub upload_of : List ℕ → List ℕ → List ℕ → List ℕ
 upload_of name digits content = concat (
-  codes "POST /b2api/v3/b2_upload_file/" ∷ bucket
-  ∷ codes " HTTP/1.1\r\nAuthorization: " ∷ upload_token
-  ∷ codes "\r\nX-Bz-File-Name: " ∷ name
-  ∷ codes "\r\nContent-Type: text/plain\r\nX-Bz-Content-Sha1: do_not_verify\r\nContent-Length: " ∷ digits
-  ∷ codes "\r\n\r\n" ∷ content ∷ [])
+    codes "POST /b2api/v3/b2_upload_file/" ∷ bucket
+    ∷ codes " HTTP/1.1\r\nAuthorization: " ∷ upload_token
+    ∷ codes "\r\nX-Bz-File-Name: " ∷ name
+    ∷ codes "\r\nContent-Type: text/plain\r\nX-Bz-Content-Sha1: do_not_verify\r\nContent-Length: " ∷ digits
+    ∷ codes "\r\n\r\n" ∷ content ∷ [])
 
 pub upload_short : (name digits content v : List ℕ) → length name ≤ 64 → length digits ≤ 40 → length content ≤ 64 → v ≡ upload_of name digits content → length v ≤ 1024
 upload_short name digits content v one two three is =

@@ -17,10 +17,10 @@ bucket = codes "000000000000000000000001"
 -- a call of the account's, with a body of JSON
 abbrev pub post : List ℕ → List ℕ → List ℕ
 post call body = concat (
-  codes "POST /b2api/v3/" ∷ call
-  ∷ codes " HTTP/1.1\r\nAuthorization: " ∷ account_token
-  ∷ codes "\r\nContent-Length: " ∷ decimal (length body)
-  ∷ codes "\r\n\r\n" ∷ body ∷ [])
+    codes "POST /b2api/v3/" ∷ call
+    ∷ codes " HTTP/1.1\r\nAuthorization: " ∷ account_token
+    ∷ codes "\r\nContent-Length: " ∷ decimal (length body)
+    ∷ codes "\r\n\r\n" ∷ body ∷ [])
 
 -- the credentials are the account's id and secret, joined by a colon, in base64
 abbrev pub authorize : List ℕ
@@ -35,11 +35,11 @@ get_upload_url = post (codes "b2_get_upload_url") (concat (codes "{\"bucketId\":
 -- the file of this name is uploaded with this content
 abbrev pub upload : List ℕ → List ℕ → List ℕ
 upload name content = concat (
-  codes "POST /b2api/v3/b2_upload_file/" ∷ bucket
-  ∷ codes " HTTP/1.1\r\nAuthorization: " ∷ upload_token
-  ∷ codes "\r\nX-Bz-File-Name: " ∷ name
-  ∷ codes "\r\nContent-Type: text/plain\r\nX-Bz-Content-Sha1: do_not_verify\r\nContent-Length: " ∷ decimal (length content)
-  ∷ codes "\r\n\r\n" ∷ content ∷ [])
+    codes "POST /b2api/v3/b2_upload_file/" ∷ bucket
+    ∷ codes " HTTP/1.1\r\nAuthorization: " ∷ upload_token
+    ∷ codes "\r\nX-Bz-File-Name: " ∷ name
+    ∷ codes "\r\nContent-Type: text/plain\r\nX-Bz-Content-Sha1: do_not_verify\r\nContent-Length: " ∷ decimal (length content)
+    ∷ codes "\r\n\r\n" ∷ content ∷ [])
 
 -- it is hidden
 abbrev pub hide : List ℕ → List ℕ

@@ -14,6 +14,7 @@ use std::alloc::Global;
 
 /// The sequence's factor and its summand.
 const FACTOR: u64 = 6_364_136_223_846_793_005;
+
 const SUMMAND: u64 = 1_442_695_040_888_963_407;
 
 // The number after this one.

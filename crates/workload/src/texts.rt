@@ -73,7 +73,8 @@ pub fn create_bucket(alloc: Global) -> Result<Vec<u8>, Memory>
     ensures bytes { IfOk result (λ v. v.items ≡ create_bucket) }
     ensures short { IfOk result (λ v. length v.items ≤ 1024) }
 {
-    let body = b"{\"accountId\":\"a1b2c3d4e5f6\",\"bucketName\":\"workload\",\"bucketType\":\"allPrivate\"}";
+    let body =
+        b"{\"accountId\":\"a1b2c3d4e5f6\",\"bucketName\":\"workload\",\"bucketType\":\"allPrivate\"}";
     let bytes = post(alloc, b"b2_create_bucket", body)?;
     Ok(bytes)
 }
@@ -122,7 +123,13 @@ fn hide(alloc: Global, name: &[u8]) -> Result<Vec<u8>, Memory>
 {
     let body = joined(
         alloc,
-        &[b"{\"bucketId\":\"", BUCKET, b"\",\"fileName\":\"", name, b"\"}"],
+        &[
+            b"{\"bucketId\":\"",
+            BUCKET,
+            b"\",\"fileName\":\"",
+            name,
+            b"\"}",
+        ],
     )?;
     let bytes = post(alloc, b"b2_hide_file", &body)?;
     Ok(bytes)
