@@ -156,7 +156,11 @@ fn requests_in_one_piece(rt: HostRuntime) -> Result<(), Fail> {
         let one = format!(in alloc; "GET /b2api/v3/b2_authorize_account HTTP/1.1\r\n{fields}\r\n")?;
         let two = format!(in alloc; "{one}{one}")?;
         let three = format!(in alloc; "{two}{one}")?;
-        let (second, third) = if stays { (Some(2), Some(3)) } else { (Some(1), Some(1)) };
+        let (second, third) = if stays {
+            (Some(2), Some(3))
+        } else {
+            (Some(1), Some(1))
+        };
         assert_eq!(rt; answered(alloc, one.as_bytes()), Some(1), "{fields}");
         assert_eq!(rt; answered(alloc, two.as_bytes()), second, "{fields}");
         assert_eq!(rt; answered(alloc, three.as_bytes()), third, "{fields}");

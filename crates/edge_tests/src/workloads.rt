@@ -48,13 +48,7 @@ fn piece_after(alloc: Global, link: &mut ScriptLink, events: u32) -> Option<Vec<
 }
 
 // Whether the piece after so many events of the workload begins and ends so.
-fn is_piece(
-    alloc: Global,
-    seed: u64,
-    events: u32,
-    first: &str,
-    last: &str,
-) -> Option<bool> {
+fn is_piece(alloc: Global, seed: u64, events: u32, first: &str, last: &str) -> Option<bool> {
     let script = workload_of(alloc, seed, 1)?;
     let mut link = script.link(alloc).ok()?;
     let piece = piece_after(alloc, &mut link, events)?;
@@ -64,11 +58,36 @@ fn is_piece(
 #[test]
 fn requests_of_workloads(rt: HostRuntime) -> Result<(), Fail> {
     for (seed, events, first, last) in [
-        (0, 1, "GET /b2api/v3/b2_authorize_account HTTP/1.1\r\n", "\r\n\r\n"),
-        (0, 4, "POST /b2api/v3/b2_create_bucket ", "\"bucketType\":\"allPrivate\"}"),
-        (0, 7, "POST /b2api/v3/b2_get_upload_url ", "{\"bucketId\":\"000000000000000000000001\"}"),
-        (0, 10, "POST /b2api/v3/b2_list_file_names ", "\"startFileName\":\"f951\"}"),
-        (1, 10, "POST /b2api/v3/b2_hide_file ", "\"fileName\":\"f693\"}"),
+        (
+            0,
+            1,
+            "GET /b2api/v3/b2_authorize_account HTTP/1.1\r\n",
+            "\r\n\r\n",
+        ),
+        (
+            0,
+            4,
+            "POST /b2api/v3/b2_create_bucket ",
+            "\"bucketType\":\"allPrivate\"}",
+        ),
+        (
+            0,
+            7,
+            "POST /b2api/v3/b2_get_upload_url ",
+            "{\"bucketId\":\"000000000000000000000001\"}",
+        ),
+        (
+            0,
+            10,
+            "POST /b2api/v3/b2_list_file_names ",
+            "\"startFileName\":\"f951\"}",
+        ),
+        (
+            1,
+            10,
+            "POST /b2api/v3/b2_hide_file ",
+            "\"fileName\":\"f693\"}",
+        ),
         (
             2,
             10,
@@ -79,7 +98,11 @@ fn requests_of_workloads(rt: HostRuntime) -> Result<(), Fail> {
             "\r\n\r\n1",
         ),
     ] {
-        assert_eq!(rt; is_piece(rt.alloc(), seed, events, first, last), Some(true), "{first}");
+        assert_eq!(rt;
+            is_piece(rt.alloc(), seed, events, first, last),
+            Some(true),
+            "{first}"
+        );
     }
     Ok(())
 }
