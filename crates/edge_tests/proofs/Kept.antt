@@ -1,5 +1,5 @@
 -- What one connection does leaves the table in order.
-use Rattle.std.proofs.Common.{◌≡◌, ◌⊎◌, inl, inr, ℕ, true, Option, Some, None, option_and_then, sym, ap, ◌∙◌, subst}
+use Rattle.std.proofs.Common.{◌≡◌, ◌⊎◌, inl, inr, ℕ, true, Option, Some, None, option_and_then, MatchOption, sym, ap, ◌∙◌, subst}
 use Rattle.std.specs.Map.{lookup}
 use Rattle.std.specs.BTreeMap.{is_at}
 use Rattle.std.specs.Ordering.{nat_cmp}
@@ -70,3 +70,10 @@ module _ {B : Type 0} where
           let P : Option (Conn B) → Type 0 = IsIn (Some a) in
           let found = replied a k a.reply (λ i. a.reply) is some in
           record { talk = a; reply = found.0; is_talk = subst P (sym at) is; has = found.1 }
+
+  pub has_reply_by : (c : ℕ) (t : Conns B) (P : Pending B → Type 0) → IsSound t → MatchOption (pending_at t c) ⊥ P → HasReply t c
+  has_reply_by c t P sound is = by (pending_at t c) (λ i. pending_at t c) is
+    where
+      by : (o : Option (Pending B)) → pending_at t c ≡ o → MatchOption o ⊥ P → HasReply t c
+      by None at none = absurd none
+      by (Some q) at some = has_reply c t q sound at
