@@ -1,6 +1,6 @@
 -- How much a connection keeps.
-use Rattle.std.proofs.Common.{◌≡◌, ℕ, ◌<◌, ◌≤◌, nat_le, not, Bool, true, false, cond, ◌&&◌, ◌||◌, List, [], length, take, drop, Option, Some, None, MatchOption, codes, sym, ap, ◌∙◌, subst, arith}
-use Rattle.std.specs.Option.{IsSome}
+use Rattle.std.proofs.Common.{◌≡◌, ℕ, ◌<◌, ◌≤◌, nat_le, not, Bool, true, false, cond, ◌&&◌, ◌||◌, List, [], length, take, drop, Option, Some, None, option_and_then, MatchOption, Result, Ok, Err, IfOk, OnOk, codes, sym, ap, ◌∙◌, subst, arith}
+use Rattle.std.specs.Option.{IsSome, is_some}
 use Rattle.std.proofs.lemmas.Bool.{false≢true, or_parts, not-false, leb-true}
 use Rattle.std.proofs.lemmas.List.{length-drop}
 use Rattle.wire_forms.specs.declared.request.Request.{Request}
@@ -9,15 +9,21 @@ use Rattle.http_edge.specs.declared.head.Head.{Head}
 use Rattle.http_edge.specs.Headers.{headers_of, is_given}
 use Rattle.http_edge.specs.Length.{lengths, are_lengths, told_length, has_digest_last, is_upload, least_body, most_body}
 use Rattle.http_edge.specs.Request.{IsRequest}
+use Rattle.conn_talk.specs.declared.act.Act.{Act}
 use Rattle.conn_talk.specs.declared.pending.Pending.{Pending}
 use Rattle.conn_talk.specs.Asked.{Asked, nothing, refused, begun, complete, IsRead, rest_of, goes_on}
-use Rattle.conn_talk.specs.Talk.{Talk}
+use Rattle.conn_talk.specs.Talk.{Talk, TakesPiece}
 use Rattle.conn_talk.proofs.Stays.{both_true}
 use Rattle.conn_table.specs.declared.conn.Conn.{Conn}
 use Rattle.conn_table.specs.declared.incoming.Stage.{Stage}
 use Rattle.conn_table.specs.declared.incoming.Stage.TheVariants as stage
 use Rattle.conn_table.specs.Incoming.{IsSeeking, IsGathering, IsHeld, IsRefused, IsAt}
 use Rattle.conn_table.specs.Table.{IsConn, IsIn, kept_of}
+
+-- what an Ok tells, and what follows from it
+pub kept_then : {T E Q : Type 0} {P : T → Type 0} (r : Result T E) → IfOk r P → ((x : T) → P x → Q) → OnOk r Q
+kept_then (Ok x) is so = so x is
+kept_then (Err e) is so = tt
 
 last_false : (a b c d e : Bool) → (a || b || c || d || e) ≡ false → e ≡ false
 last_false a b c d e is = (or_parts (a || b || c || d) e is).1
@@ -133,3 +139,12 @@ module _ {B : Type 0} where
   pub got_short : (a : Talk B) (o : Option (Conn B)) → IsIn (Some a) o → a.reply ≡ None → a.told ≡ nothing → length a.got ≤ 1064960
   got_short a None is idle none = absurd is
   got_short a (Some k) is idle none = conn_got a.before a.got a.told a.reply k is idle none
+
+  -- a reply that is pending stays pending when bytes come
+  pub still_pending : (a b : Talk B) (o : Option (Conn B)) (bytes : List ℕ) (acts : List Act) → IsIn (Some a) o → IsSome (option_and_then (λ (k : Conn B). k.reply) o) → TakesPiece a bytes acts b → IsSome b.reply
+  still_pending a b None bytes acts is some takes = absurd is
+  still_pending a b (Some k) bytes acts is some takes = by_reply a.before a.got a.told a.reply is takes
+    where
+      by_reply : (before : ℕ) (got : List ℕ) (told : Asked) (o : Option (Pending B)) → IsConn (talk before got told o) k → TakesPiece (talk before got told o) bytes acts b → IsSome b.reply
+      by_reply before got told None conn does = absurd (false≢true (sym (ap is_some conn.reply_is) ∙ some))
+      by_reply before got told (Some p) conn does = ap (λ (t : Talk B). is_some t.reply) does.1

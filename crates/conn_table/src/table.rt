@@ -73,6 +73,9 @@ impl<B: Drop> Conns<B> {
         requires { (a : Talk B) × IsTalk self.old c (Some a) }
         ensures acts { (a : Talk B) → IsTalk self.old c (Some a) → IfOk result (λ acts.
             (b : Talk B) × TakesPiece a bytes.now acts.items b × IsTalk self.new c (Some b)) }
+        ensures kept { OnOk result (kept_at self.new c ≤ MOST_KEPT) }
+        ensures behind { IsSome (pending_at self.old c)
+            → OnOk result (kept_at self.new c ≤ MOST_HELD) }
         ensures others { KeepsOthers c self.old self.new }
         ensures count { count_of self.new ≡ count_of self.old }
     {
