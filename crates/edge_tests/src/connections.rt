@@ -100,6 +100,18 @@ fn in_two(alloc: Global, bytes: &[u8], cut: usize) -> Option<(usize, usize, usiz
     Some((first, second, conns.kept(c)))
 }
 
+// The same byte by byte: how many acts they brought, and how many bytes are kept then.
+fn byte_by_byte(alloc: Global, bytes: &[u8]) -> Option<(usize, usize)> {
+    let mut conns = Conns::new(alloc);
+    let c = ConnNum::new(7)?;
+    reopen(alloc, &mut conns, c)?;
+    let mut acts = 0usize;
+    for byte in bytes.chunks(1) {
+        acts = acts.saturating_add(feed(alloc, &mut conns, c, byte)?);
+    }
+    Some((acts, conns.kept(c)))
+}
+
 const HEAD: &str = "POST /b2api/v3/b2_authorize_account HTTP/1.1\r\nContent-Length: 5\r\n\
     Connection: keep-alive\r\n\r\n";
 
@@ -115,6 +127,7 @@ fn requests_in_pieces(rt: HostRuntime) -> Result<(), Fail> {
         let want = Some((first, second, 4));
         assert_eq!(rt; in_two(alloc, bytes, cut), want, "{cut}");
     }
+    assert_eq!(rt; byte_by_byte(alloc, bytes), Some((1, 4)));
     Ok(())
 }
 
@@ -233,6 +246,8 @@ fn many_connections(rt: HostRuntime) -> Result<(), Fail> {
     for (count, open) in [(1, 1), (32, 32), (33, 32), (40, 32)] {
         let mut conns = Conns::new(alloc);
         assert_eq!(rt; opened(alloc, &mut conns, count), Some(open), "{count}");
+        let first = ConnNum::new(0).ok_or("a connection")?;
+        assert_eq!(rt; conns.is_open(first), true);
         let last = ConnNum::new(39).ok_or("a connection")?;
         assert_eq!(rt; conns.is_open(last), false);
         // One that isn't open has nothing, and takes nothing.
