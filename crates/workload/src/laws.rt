@@ -1,8 +1,9 @@
 //! What holds of each workload.
 
-ghost use Rattle.std.specs.Prelude.{◌≡◌, ◌+◌, ℕ};
+ghost use Rattle.std.specs.Prelude.{◌≡◌, ◌≤◌, ◌+◌, ℕ};
 ghost use Rattle.b2_base.specs.BucketId.{bucket_id};
 ghost use Rattle.b2_model.specs.LiveGrant.{token_text};
+ghost use Rattle.event_script.specs.Script.{IsScript};
 ghost use Rattle.workload.specs.Requests.{account_token, upload_token, bucket};
 ghost use Rattle.workload.specs.Workload.{workload, opened_in};
 
@@ -17,4 +18,10 @@ pub fn tokens_are_known()
     ensures account { account_token ≡ token_text 1 1 1 2 }
     ensures upload { upload_token ≡ token_text 1 2 3 4 }
     ensures bucket { bucket ≡ bucket_id 1 }
+{}
+
+/// A workload with no more lines that say `ready` than a script may have is a script, which its
+/// text reads as.
+pub fn small_workloads_are_scripts()
+    ensures { (seed n : ℕ) → n ≤ 16381 → IsScript (workload seed n) }
 {}

@@ -6,5 +6,5 @@ mod laws;
 mod make;
 mod texts;
 
-pub use laws::{one_connection_each, tokens_are_known};
+pub use laws::{one_connection_each, small_workloads_are_scripts, tokens_are_known};
 pub use make::make_workload;
