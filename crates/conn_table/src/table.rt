@@ -91,6 +91,7 @@ impl<B: Drop> Conns<B> {
         requires { (a : Talk B) × IsTalk self.old c (Some a) }
         ensures acts { (a : Talk B) → IsTalk self.old c (Some a) → IfOk result (λ acts.
             (b : Talk B) × TakesPiece a [] acts.items b × IsTalk self.new c (Some b)) }
+        ensures kept { OnOk result (kept_at self.new c ≤ MOST_KEPT) }
         ensures others { KeepsOthers c self.old self.new }
         ensures count { count_of self.new ≡ count_of self.old }
     {
