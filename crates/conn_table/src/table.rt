@@ -160,8 +160,9 @@ impl<B: Drop> Conns<B> {
         reply
     }
 
-    /// How many bytes the connection keeps of its request or after it. A head that was read is kept
-    /// in its parts beside them: with it, too, no more came of a request of which no act told.
+    /// How many bytes the connection keeps as they came, of its request or after it. A head that was
+    /// read is kept in its parts beside them; all that came of a request of which no act told yet,
+    /// its head included, is no more either.
     pub fn kept(&self, c: ConnNum) -> usize
         ensures size { result ≡ kept_at self.now c }
         ensures request { (a : Talk B) → IsTalk self.now c (Some a) → result ≤ MOST_KEPT }

@@ -1,12 +1,14 @@
 -- A workload of not too many requests is a script.
-use Rattle.std.proofs.Common.{◌≡◌, ℕ, zero, suc, ◌+◌, ◌*◌, ◌<◌, ◌≤◌, ◌^◌, List, [], ◌∷◌, ◌++◌, length, codes, decimal, refl, sym, ap, ◌∙◌, append_assoc, arith}
+use Rattle.std.proofs.Common.{◌≡◌, ℕ, zero, suc, ◌+◌, ◌*◌, ◌<◌, ◌≤◌, ◌^◌, List, [], ◌∷◌, ◌++◌, length, Ok, codes, decimal, refl, sym, ap, subst, append_assoc, arith}
 use Rattle.std.proofs.lemmas.List.{length-append}
 use Rattle.hex.specs.Hex.{encode_lower, lower_digits}
 use Rattle.hex.proofs.HexLemmas.{length-encode_with}
 use Rattle.b2_base.specs.Digits.{sixteen_digits}
 use Rattle.b2_base.proofs.DigitsLemmas.{length-sixteen_digits}
 use Rattle.event_script.specs.Line.{Line, reading, random, opening, piece, ready, stop, line_text}
-use Rattle.event_script.specs.Script.{text_of, StopsOnce, ready_lines, IsScript}
+use Rattle.event_script.specs.declared.script.Script.{Script}
+use Rattle.event_script.specs.Script.{text_of, StopsOnce, ready_lines, IsScript, GivesScript, Says}
+use Rattle.event_script.proofs.Fronts.{one_list}
 use Rattle.workload.specs.Sequence.{next_number, drawn}
 use Rattle.workload.specs.Requests.{authorize, create_bucket, get_upload_url, request}
 use Rattle.workload.specs.Workload.{exchange, setup, turns_after, workload}
@@ -104,3 +106,7 @@ is_script seed n few =
       beginning = record { each = all_fit seed n (omega (arith, few)); order = stops_once seed n; ready = omega (arith, ready, few); size = size_all seed n few };
       ended = (setup ++ turns_after seed 0 n, sym (append_assoc setup (turns_after seed 0 n) (stop ∷ [])));
     }
+
+-- what its text is read as
+pub reads_so : (seed n : ℕ) (s : Script) → n ≤ 16381 → GivesScript (text_of (workload seed n)) (Ok s) → Says s (workload seed n)
+reads_so seed n s few (lines, reads, says) = subst (Says s) (one_list (text_of (workload seed n)) lines (workload seed n) reads (is_script seed n few, refl)) says

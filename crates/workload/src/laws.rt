@@ -1,9 +1,10 @@
 //! What holds of each workload.
 
-ghost use Rattle.std.specs.Prelude.{◌≡◌, ◌≤◌, ◌+◌, ℕ};
+ghost use Rattle.std.specs.Prelude.{◌≡◌, ◌≤◌, ◌+◌, ℕ, Ok};
 ghost use Rattle.b2_base.specs.BucketId.{bucket_id};
 ghost use Rattle.b2_model.specs.LiveGrant.{token_text};
-ghost use Rattle.event_script.specs.Script.{IsScript};
+ghost use Rattle.event_script.specs.declared.script.Script.{Script as TheScript};
+ghost use Rattle.event_script.specs.Script.{IsScript, GivesScript, Says, text_of};
 ghost use Rattle.workload.specs.Requests.{account_token, upload_token, bucket};
 ghost use Rattle.workload.specs.Workload.{workload, opened_in};
 
@@ -20,8 +21,10 @@ pub fn tokens_are_known()
     ensures bucket { bucket ≡ bucket_id 1 }
 {}
 
-/// A workload with no more lines that say `ready` than a script may have is a script, which its
-/// text reads as.
+/// A workload with no more lines that say `ready` than a script may have is a script, and a script
+/// that its text is read as says the same.
 pub fn small_workloads_are_scripts()
-    ensures { (seed n : ℕ) → n ≤ 16381 → IsScript (workload seed n) }
+    ensures script { (seed n : ℕ) → n ≤ 16381 → IsScript (workload seed n) }
+    ensures read { (seed n : ℕ) (s : TheScript) → n ≤ 16381
+        → GivesScript (text_of (workload seed n)) (Ok s) → Says s (workload seed n) }
 {}
