@@ -1,8 +1,8 @@
 -- How much a connection keeps.
-use Rattle.std.proofs.Common.{◌≡◌, ℕ, ◌<◌, ◌≤◌, nat_le, not, Bool, true, false, cond, ◌&&◌, ◌||◌, List, [], length, take, drop, Option, Some, None, option_and_then, MatchOption, Result, Ok, Err, IfOk, OnOk, codes, sym, ap, ◌∙◌, subst, arith}
+use Rattle.std.proofs.Common.{◌≡◌, ℕ, ◌+◌, ◌<◌, ◌≤◌, nat_le, not, Bool, true, false, cond, ◌&&◌, ◌||◌, List, [], length, take, drop, Option, Some, None, option_and_then, MatchOption, Result, Ok, Err, IfOk, OnOk, codes, sym, ap, ◌∙◌, subst, arith}
 use Rattle.std.specs.Option.{IsSome, is_some}
 use Rattle.std.proofs.lemmas.Bool.{false≢true, or_parts, not-false, leb-true}
-use Rattle.std.proofs.lemmas.List.{length-drop}
+use Rattle.std.proofs.lemmas.List.{length-take}
 use Rattle.wire_forms.specs.declared.request.Request.{Request}
 use Rattle.call_paths.specs.declared.routes.Route.{Route}
 use Rattle.http_edge.specs.declared.head.Head.{Head}
@@ -11,14 +11,16 @@ use Rattle.http_edge.specs.Length.{lengths, are_lengths, told_length, has_digest
 use Rattle.http_edge.specs.Request.{IsRequest}
 use Rattle.conn_talk.specs.declared.act.Act.{Act}
 use Rattle.conn_talk.specs.declared.pending.Pending.{Pending}
-use Rattle.conn_talk.specs.Asked.{Asked, nothing, refused, begun, complete, IsRead, rest_of, goes_on}
+use Rattle.conn_talk.specs.Asked.{Asked, nothing, refused, begun, complete, IsRead, head_of, rest_of, goes_on}
 use Rattle.conn_talk.specs.Talk.{Talk, TakesPiece}
 use Rattle.conn_talk.proofs.Stays.{both_true}
 use Rattle.conn_table.specs.declared.conn.Conn.{Conn}
 use Rattle.conn_table.specs.declared.incoming.Stage.{Stage}
 use Rattle.conn_table.specs.declared.incoming.Stage.TheVariants as stage
 use Rattle.conn_table.specs.Incoming.{IsSeeking, IsGathering, IsHeld, IsRefused, IsAt}
-use Rattle.conn_table.specs.Table.{IsConn, IsIn, kept_of}
+use Rattle.conn_table.specs.Heads.{head_bytes, head_size}
+use Rattle.conn_table.specs.Table.{IsConn, IsIn, held_of}
+use Rattle.conn_table.proofs.Heads.{head_within}
 
 -- what an Ok tells, and what follows from it
 pub kept_then : {T E Q : Type 0} {P : T → Type 0} (r : Result T E) → IfOk r P → ((x : T) → P x → Q) → OnOk r Q
@@ -74,41 +76,34 @@ next_reads told at kept is goes = absurd (false≢true goes)
 
 -- ---- of a request
 
-at_few : (before : ℕ) (bytes : List ℕ) (told : Asked) (at : Stage) (slot : Option Head) (kept : List ℕ) → IsAt before bytes told at slot kept → length kept ≤ 1064960
+-- how much is kept: bytes as they came, and the parts of a head
+no_more : (most : ℕ) (slot : Option Head) (kept : List ℕ) → length kept ≤ most → slot ≡ None → length kept + head_size slot ≤ most
+no_more most slot kept few none = let size : head_size slot ≡ 0 = ap head_size none in omega (arith, few, size)
+
+-- the head and the body of a call
+gathered_few : (before : ℕ) (bytes : List ℕ) (h : Head) (kept : List ℕ) → IsGathering before bytes h kept → length kept + length (head_bytes h) ≤ 1064960
+gathered_few before bytes h kept is =
+    let read = is.read in
+    let most = call_short before bytes h kept read is.call in
+    let short = is.short in
+    let parts = head_within before (take read.end bytes) read.asked read.route read.request in
+    let same : length (head_bytes h) ≡ length (head_bytes (head_of before read.asked read.route)) = ap (λ x. length (head_bytes x)) read.head_is in
+    let front = length-take read.end bytes in
+    let end = read.cut.1 in omega (arith, most, short, parts, same, front, end)
+
+at_few : (before : ℕ) (bytes : List ℕ) (told : Asked) (at : Stage) (slot : Option Head) (kept : List ℕ) → IsAt before bytes told at slot kept → length kept + head_size slot ≤ 1064960
 at_few before bytes told (stage.Seeking seen) slot kept is =
     let seeking = is.1 in
     let few = seeking.few in
-    let same = ap length seeking.kept_is in omega (arith, few, same)
+    let same = ap length seeking.kept_is in no_more 1064960 slot kept (omega (arith, few, same)) is.2
 at_few before bytes told stage.Gathering slot kept is = gathered slot is.1
   where
-    gathered : (o : Option Head) → MatchOption o ⊥ (λ h. IsGathering before bytes h kept) → length kept ≤ 1064960
+    gathered : (o : Option Head) → MatchOption o ⊥ (λ h. IsGathering before bytes h kept) → length kept + head_size o ≤ 1064960
     gathered None none = absurd none
-    gathered (Some h) gathering =
-        let most = call_short before bytes h kept gathering.read gathering.call in
-        let short = gathering.short in omega (arith, most, short)
-at_few before bytes told (stage.Uploading left) slot kept is = let few = none_few kept is.kept_is in omega (arith, few)
-at_few before bytes told (stage.Complete says) slot kept is = let few = held_few told (stage.Complete says) kept is.1 in omega (arith, few)
-at_few before bytes told stage.Closed slot kept is = let few = none_few kept is.2 in omega (arith, few)
-
--- the head that was read is one of the bytes that came
-got_few : (before : ℕ) (bytes : List ℕ) (told : Asked) (at : Stage) (slot : Option Head) (kept : List ℕ) → IsAt before bytes told at slot kept → told ≡ nothing → length bytes ≤ 1064960
-got_few before bytes told (stage.Seeking seen) slot kept is none =
-    let seeking = is.1 in
-    let few = seeking.few in omega (arith, few)
-got_few before bytes told stage.Gathering slot kept is none = gathered slot is.1
-  where
-    gathered : (o : Option Head) → MatchOption o ⊥ (λ h. IsGathering before bytes h kept) → length bytes ≤ 1064960
-    gathered None missing = absurd missing
-    gathered (Some h) gathering =
-        let read = gathering.read in
-        let most = call_short before bytes h kept read gathering.call in
-        let short = gathering.short in
-        let size : length kept ≡ length (drop read.end bytes) = ap length read.rest_is in
-        let after = length-drop read.end bytes in
-        let end = read.cut.1 in omega (arith, most, short, size, after, end)
-got_few before bytes told (stage.Uploading left) slot kept is none = absurd (cc (is.told_is, none))
-got_few before bytes told (stage.Complete says) slot kept is none = absurd (subst (λ (a : Asked). IsHeld a (stage.Complete says) kept) none is.1)
-got_few before bytes told stage.Closed slot kept is none = absurd (subst IsRefused none is.1)
+    gathered (Some h) gathering = gathered_few before bytes h kept gathering
+at_few before bytes told (stage.Uploading left) slot kept is = let few = none_few kept is.0.kept_is in no_more 1064960 slot kept (omega (arith, few)) is.1
+at_few before bytes told (stage.Complete says) slot kept is = let few = held_few told (stage.Complete says) kept is.1 in no_more 1064960 slot kept (omega (arith, few)) is.2
+at_few before bytes told stage.Closed slot kept is = let few = none_few kept is.2 in no_more 1064960 slot kept (omega (arith, few)) is.3
 
 -- ---- the connection in the table
 
@@ -116,29 +111,25 @@ module _ {B : Type 0} where
   abbrev talk : ℕ → List ℕ → Asked → Option (Pending B) → Talk B
   talk before got told reply = record { before = before; got = got; told = told; reply = reply }
 
-  conn_few : (before : ℕ) (got : List ℕ) (told : Asked) (o : Option (Pending B)) (k : Conn B) → IsConn (talk before got told o) k → length k.incoming.bytes.items ≤ 1064960
+  waiting_few : (before : ℕ) (got : List ℕ) (told : Asked) (p : Pending B) (k : Conn B) → IsConn (talk before got told (Some p)) k → length k.incoming.bytes.items + head_size k.incoming.head ≤ 65536
+  waiting_few before got told p k is =
+      no_more 65536 k.incoming.head k.incoming.bytes.items (held_few told k.incoming.stage k.incoming.bytes.items is.incoming.held) is.incoming.no_head
+
+  conn_few : (before : ℕ) (got : List ℕ) (told : Asked) (o : Option (Pending B)) (k : Conn B) → IsConn (talk before got told o) k → length k.incoming.bytes.items + head_size k.incoming.head ≤ 1064960
   conn_few before got told None k is = at_few before got told k.incoming.stage k.incoming.head k.incoming.bytes.items is.incoming.at
-  conn_few before got told (Some p) k is = let few = held_few told k.incoming.stage k.incoming.bytes.items is.incoming.held in omega (arith, few)
+  conn_few before got told (Some p) k is = let few = waiting_few before got told p k is in omega (arith, few)
 
-  conn_behind : (before : ℕ) (got : List ℕ) (told : Asked) (o : Option (Pending B)) (k : Conn B) → IsConn (talk before got told o) k → IsSome o → length k.incoming.bytes.items ≤ 65536
+  conn_behind : (before : ℕ) (got : List ℕ) (told : Asked) (o : Option (Pending B)) (k : Conn B) → IsConn (talk before got told o) k → IsSome o → length k.incoming.bytes.items + head_size k.incoming.head ≤ 65536
   conn_behind before got told None k is some = absurd (false≢true some)
-  conn_behind before got told (Some p) k is some = held_few told k.incoming.stage k.incoming.bytes.items is.incoming.held
+  conn_behind before got told (Some p) k is some = waiting_few before got told p k is
 
-  conn_got : (before : ℕ) (got : List ℕ) (told : Asked) (o : Option (Pending B)) (k : Conn B) → IsConn (talk before got told o) k → o ≡ None → told ≡ nothing → length got ≤ 1064960
-  conn_got before got told None k is idle none = got_few before got told k.incoming.stage k.incoming.head k.incoming.bytes.items is.incoming.at none
-  conn_got before got told (Some p) k is idle none = absurd (cc idle)
-
-  pub kept_few : (a : Talk B) (o : Option (Conn B)) → IsIn (Some a) o → kept_of o ≤ 1064960
+  pub kept_few : (a : Talk B) (o : Option (Conn B)) → IsIn (Some a) o → held_of o ≤ 1064960
   kept_few a None is = absurd is
   kept_few a (Some k) is = conn_few a.before a.got a.told a.reply k is
 
-  pub kept_behind : (a : Talk B) (o : Option (Conn B)) → IsIn (Some a) o → IsSome a.reply → kept_of o ≤ 65536
+  pub kept_behind : (a : Talk B) (o : Option (Conn B)) → IsIn (Some a) o → IsSome a.reply → held_of o ≤ 65536
   kept_behind a None is some = absurd is
   kept_behind a (Some k) is some = conn_behind a.before a.got a.told a.reply k is some
-
-  pub got_short : (a : Talk B) (o : Option (Conn B)) → IsIn (Some a) o → a.reply ≡ None → a.told ≡ nothing → length a.got ≤ 1064960
-  got_short a None is idle none = absurd is
-  got_short a (Some k) is idle none = conn_got a.before a.got a.told a.reply k is idle none
 
   -- a reply that is pending stays pending when bytes come
   pub still_pending : (a b : Talk B) (o : Option (Conn B)) (bytes : List ℕ) (acts : List Act) → IsIn (Some a) o → IsSome (option_and_then (λ (k : Conn B). k.reply) o) → TakesPiece a bytes acts b → IsSome b.reply

@@ -1,3 +1,4 @@
+pub mod Heads
 pub mod Bounds
 pub mod Held
 pub mod Steps

@@ -1,5 +1,5 @@
 -- What a connection keeps of the bytes that came.
-use Rattle.std.specs.Prelude.{◌≡◌, ◌≤◌, ◌<◌, ◌+◌, ℕ, Bool, true, false, List, [], ◌++◌, length, take, Option, MatchOption, if◌then◌else◌, ⊤}
+use Rattle.std.specs.Prelude.{◌≡◌, ◌≤◌, ◌<◌, ◌+◌, ℕ, Bool, true, false, List, [], ◌++◌, length, take, Option, None, MatchOption, if◌then◌else◌, ⊤}
 use Rattle.http_edge.specs.declared.cut.Cut.TheVariants.{NotYet}
 use Rattle.http_edge.specs.declared.head.Head.{Head}
 use Rattle.http_edge.specs.Cut.{IsCut}
@@ -55,11 +55,11 @@ IsRefused other = ⊥
 
 -- these bytes came of the request, and it was told that they ask for that
 abbrev pub IsAt : ℕ → List ℕ → Asked → Stage → Option Head → List ℕ → Type 0
-IsAt before bytes told (stage.Seeking seen) head kept = (told ≡ nothing) × IsSeeking seen bytes kept
+IsAt before bytes told (stage.Seeking seen) head kept = (told ≡ nothing) × IsSeeking seen bytes kept × (head ≡ None)
 IsAt before bytes told stage.Gathering head kept = (told ≡ nothing) × MatchOption head ⊥ (λ h. IsGathering before bytes h kept)
-IsAt before bytes told (stage.Uploading left) head kept = IsUploading before bytes told left kept
-IsAt before bytes told (stage.Complete says) head kept = IsAsked before bytes told × IsHeld told (stage.Complete says) kept
-IsAt before bytes told stage.Closed head kept = IsAsked before bytes told × IsRefused told × (kept ≡ [])
+IsAt before bytes told (stage.Uploading left) head kept = IsUploading before bytes told left kept × (head ≡ None)
+IsAt before bytes told (stage.Complete says) head kept = IsAsked before bytes told × IsHeld told (stage.Complete says) kept × (head ≡ None)
+IsAt before bytes told stage.Closed head kept = IsAsked before bytes told × IsRefused told × (kept ≡ []) × (head ≡ None)
 
 -- the flags say what was told
 pub record HasFlags (before : ℕ) (told : Asked) (k : Incoming) : Type 0 where
@@ -77,6 +77,7 @@ pub record IsWaiting (before : ℕ) (told : Asked) (k : Incoming) : Type 0 where
   pub flags : HasFlags before told k
   pub held : IsHeld told k.stage k.bytes.items
   pub few : goes_on told ≡ true → before < last_request
+  pub no_head : k.head ≡ None
 
 -- the bytes, all that came of the request, ask for this; the acts of it, after what was told, stand after the
 -- first ones
@@ -94,6 +95,7 @@ IsSought (stage.Seeking seen) kept = (seen ≤ length kept) × (0 < seen → IsC
 IsSought other kept = ⊤
 
 pub record SameFlags (old new : Incoming) : Type 0 where
+  pub head_is : new.head ≡ old.head
   pub before_is : new.before ≡ old.before
   pub stay_is : new.stay ≡ old.stay
   pub upload_is : new.upload ≡ old.upload

@@ -4,10 +4,9 @@ ghost use Rattle.std.specs.Prelude.{◌≡◌, ◌≤◌, ◌<◌, ◌+◌, ◌^
 ghost use Rattle.std.specs.Option.{is_some, option_copied};
 ghost use Rattle.b2_base.specs.Failure.{IfFault, UnlessFault};
 ghost use Rattle.conn_talk.specs.declared.pending.Pending.{Pending as TheReply};
-ghost use Rattle.conn_talk.specs.Asked.{nothing};
 ghost use Rattle.conn_talk.specs.Talk.{Talk, first_talk, TakesPiece, shown, size_of, with_sent, given_back, talk_after, asks_stay, is_uploading};
 ghost use Rattle.conn_table.specs.Ends.{closes};
-ghost use Rattle.conn_table.specs.Table.{conn_at, count_of, kept_at, pending_at, IsTalk, KeepsOthers};
+ghost use Rattle.conn_table.specs.Table.{conn_at, count_of, held_at, kept_at, pending_at, IsTalk, KeepsOthers};
 
 use crate::conn::Conn;
 use crate::incoming::MOST_HELD;
@@ -73,9 +72,9 @@ impl<B: Drop> Conns<B> {
         requires { (a : Talk B) × IsTalk self.old c (Some a) }
         ensures acts { (a : Talk B) → IsTalk self.old c (Some a) → IfOk result (λ acts.
             (b : Talk B) × TakesPiece a bytes.now acts.items b × IsTalk self.new c (Some b)) }
-        ensures kept { OnOk result (kept_at self.new c ≤ MOST_KEPT) }
+        ensures held { OnOk result (held_at self.new c ≤ MOST_KEPT) }
         ensures behind { IsSome (pending_at self.old c)
-            → OnOk result (kept_at self.new c ≤ MOST_HELD) }
+            → OnOk result (held_at self.new c ≤ MOST_HELD) }
         ensures others { KeepsOthers c self.old self.new }
         ensures count { count_of self.new ≡ count_of self.old }
     {
@@ -91,7 +90,7 @@ impl<B: Drop> Conns<B> {
         requires { (a : Talk B) × IsTalk self.old c (Some a) }
         ensures acts { (a : Talk B) → IsTalk self.old c (Some a) → IfOk result (λ acts.
             (b : Talk B) × TakesPiece a [] acts.items b × IsTalk self.new c (Some b)) }
-        ensures kept { OnOk result (kept_at self.new c ≤ MOST_KEPT) }
+        ensures held { OnOk result (held_at self.new c ≤ MOST_KEPT) }
         ensures others { KeepsOthers c self.old self.new }
         ensures count { count_of self.new ≡ count_of self.old }
     {
@@ -161,15 +160,13 @@ impl<B: Drop> Conns<B> {
     }
 
     /// How many bytes the connection keeps as they came, of its request or after it. A head that was
-    /// read is kept in its parts beside them; all that came of a request of which no act told yet,
-    /// its head included, is no more either.
+    /// read is kept in its parts beside them.
     pub fn kept(&self, c: ConnNum) -> usize
         ensures size { result ≡ kept_at self.now c }
-        ensures request { (a : Talk B) → IsTalk self.now c (Some a) → result ≤ MOST_KEPT }
+        ensures request { (a : Talk B) → IsTalk self.now c (Some a)
+            → held_at self.now c ≤ MOST_KEPT }
         ensures behind { (a : Talk B) → IsTalk self.now c (Some a) → IsSome a.reply
-            → result ≤ MOST_HELD }
-        ensures came { (a : Talk B) → IsTalk self.now c (Some a) → a.reply ≡ None
-            → a.told ≡ nothing → length a.got ≤ MOST_KEPT }
+            → held_at self.now c ≤ MOST_HELD }
     {
         match self.conns.get(&c.get()) {
             Some(conn) => conn.incoming.bytes.len(),

@@ -12,8 +12,8 @@ piece-requires g c = λ none.
 pub returns-clause-acts : goal.returns-clause-acts
 returns-clause-acts g c = search rules
 
-pub returns-clause-kept : goal.returns-clause-kept
-returns-clause-kept g c = kept_then c.piece.result (returns-clause-acts g c c.requires.0 c.requires.1) (λ acts given. kept_few given.0 _ given.2)
+pub returns-clause-held : goal.returns-clause-held
+returns-clause-held g c = kept_then c.piece.result (returns-clause-acts g c c.requires.0 c.requires.1) (λ acts given. kept_few given.0 _ given.2)
 
 pub returns-clause-behind : goal.returns-clause-behind
 returns-clause-behind g c = λ some.
