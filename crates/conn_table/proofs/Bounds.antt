@@ -1,5 +1,5 @@
 -- How much a connection keeps.
-use Rattle.std.proofs.Common.{◌≡◌, ℕ, ◌+◌, ◌<◌, ◌≤◌, nat_le, not, Bool, true, false, cond, ◌&&◌, ◌||◌, List, [], length, take, drop, Option, Some, None, option_and_then, MatchOption, Result, Ok, Err, IfOk, OnOk, codes, sym, ap, ◌∙◌, subst, arith}
+use Rattle.std.proofs.Common.{◌≡◌, ℕ, ◌+◌, ◌≤◌, nat_le, not, Bool, true, false, cond, ◌&&◌, ◌||◌, List, [], length, take, Option, Some, None, option_and_then, MatchOption, Result, Ok, Err, IfOk, OnOk, codes, sym, ap, ◌∙◌, arith}
 use Rattle.std.specs.Option.{IsSome, is_some}
 use Rattle.std.proofs.lemmas.Bool.{false≢true, or_parts, not-false, leb-true}
 use Rattle.std.proofs.lemmas.List.{length-take}
@@ -11,13 +11,13 @@ use Rattle.http_edge.specs.Length.{lengths, are_lengths, told_length, has_digest
 use Rattle.http_edge.specs.Request.{IsRequest}
 use Rattle.conn_talk.specs.declared.act.Act.{Act}
 use Rattle.conn_talk.specs.declared.pending.Pending.{Pending}
-use Rattle.conn_talk.specs.Asked.{Asked, nothing, refused, begun, complete, IsRead, head_of, rest_of, goes_on}
+use Rattle.conn_talk.specs.Asked.{Asked, complete, IsRead, head_of, rest_of, goes_on}
 use Rattle.conn_talk.specs.Talk.{Talk, TakesPiece}
 use Rattle.conn_talk.proofs.Stays.{both_true}
 use Rattle.conn_table.specs.declared.conn.Conn.{Conn}
 use Rattle.conn_table.specs.declared.incoming.Stage.{Stage}
 use Rattle.conn_table.specs.declared.incoming.Stage.TheVariants as stage
-use Rattle.conn_table.specs.Incoming.{IsSeeking, IsGathering, IsHeld, IsRefused, IsAt}
+use Rattle.conn_table.specs.Incoming.{IsSeeking, IsGathering, IsHeld, IsAt}
 use Rattle.conn_table.specs.Heads.{head_bytes, head_size}
 use Rattle.conn_table.specs.Table.{IsConn, IsIn, held_of}
 use Rattle.conn_table.proofs.Heads.{head_within}

@@ -1,20 +1,19 @@
 -- The parts of a head are no longer than it.
-use Rattle.std.proofs.Common.{◌≡◌, ℕ, ◌+◌, ◌≤◌, ◌==◌, Bool, true, false, cond, bytes_eq, List, [], ◌∷◌, ◌++◌, length, take, drop, map, filter, fold, reverse, ap, ◌∙◌, append-nil, append_assoc, arith}
+use Rattle.std.proofs.Common.{◌≡◌, ℕ, ◌+◌, ◌≤◌, ◌==◌, Bool, bytes_eq, List, [], ◌∷◌, ◌++◌, length, map, filter, fold, reverse, ap, ◌∙◌, append-nil, append_assoc, arith}
 use Rattle.std.specs.Char.{to_ascii_lowercase}
 use Rattle.std.specs.List.{flat_map, position_or_len}
 use Rattle.std.proofs.lemmas.Bool.{cond_both}
 use Rattle.std.proofs.lemmas.List.{length-append, length-take, length-drop, length-map, length-reverse}
 use Rattle.std.proofs.lemmas.List.Concat.{flat_map-append}
-use Rattle.httparse.specs.Grammar.{Field, print_field, print_blank, print_version, print_end, print_section, field_value, is_ows, skip_ows, trim_ows, RequestHead, print_request}
+use Rattle.httparse.specs.Grammar.{Field, print_field, print_blank, print_version, print_end, print_section, field_value, is_ows, skip_ows, trim_ows, RequestHead}
 use Rattle.httparse.proofs.GrammarLemmas.{print_request-append, cons-append}
 use Rattle.http_header.specs.FieldValue.{FieldValue, plain_value}
 use Rattle.http_header.specs.HeaderMap.{Entries, append}
 use Rattle.http_header.specs.Token.{lowercase}
 use Rattle.wire_forms.specs.declared.request.Request.{Request}
 use Rattle.call_paths.specs.declared.routes.Route.{Route}
-use Rattle.http_edge.specs.declared.head.Head.{Head}
-use Rattle.http_edge.specs.Headers.{IsHead, is_read, path_of, query_of, headers_by, headers_of}
-use Rattle.http_edge.specs.Request.{IsRequest, request_of}
+use Rattle.http_edge.specs.Headers.{is_read, path_of, query_of, headers_of}
+use Rattle.http_edge.specs.Request.{IsRequest}
 use Rattle.conn_talk.specs.Asked.{head_of}
 use Rattle.conn_table.specs.Heads.{header_bytes, head_bytes}
 

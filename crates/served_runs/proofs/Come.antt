@@ -1,5 +1,5 @@
 -- Whatever bytes come, they come to something.
-use Rattle.std.proofs.Common.{◌≡◌, ℕ, ◌<◌, ◌≤◌, ◌⊎◌, inl, inr, Bool, true, false, List, length, take, drop, refl}
+use Rattle.std.proofs.Common.{◌≡◌, ℕ, ◌<◌, ◌≤◌, ◌⊎◌, inl, inr, true, false, List, length, take, drop, refl}
 use Rattle.std.proofs.lemmas.Bool.{cases_lt, cases_Bool}
 use Rattle.httparse.specs.Grammar.{RequestHead}
 use Rattle.rule_table.specs.declared.fault.FaultKind.{FaultKind}

@@ -1,6 +1,5 @@
 -- From every world each event leads on.
-use Rattle.std.proofs.Common.{◌≡◌, ℕ, ◌⊎◌, inl, inr, Bool, true, false, List, [], ◌∷◌, ◌++◌, length, take, Option, Some, None, MatchOption, refl, sym, subst}
-use Rattle.std.proofs.lemmas.Bool.{cases_Bool}
+use Rattle.std.proofs.Common.{◌≡◌, ℕ, Bool, true, false, List, [], ◌∷◌, ◌++◌, length, take, Option, Some, None, MatchOption, refl}
 use Rattle.outside_traits.specs.declared.link.Event.{Event}
 use Rattle.outside_traits.specs.declared.link.Event.TheVariants as event
 use Rattle.b2_model.specs.Body.{body_of}
@@ -12,7 +11,7 @@ use Rattle.conn_talk.specs.declared.pending.Pending.{Pending}
 use Rattle.conn_talk.specs.Asked.{Asked, nothing, refused, begun, complete, IsAsked, is_begun}
 use Rattle.conn_talk.specs.Talk.{next_talk, shown_as, with_sent, is_whole}
 use Rattle.conn_talk.proofs.Once.{open_upload}
-use Rattle.served_world.specs.Replies.{Reads, Reply, form, Outcome, made, Begins, Ends, Asks, BeginsOnce, EndsUnrefused, IsCarriedOut, Makes}
+use Rattle.served_world.specs.Replies.{Reads, Reply, form, Outcome, made, Ends, BeginsOnce, EndsUnrefused, IsCarriedOut, Makes}
 use Rattle.served_world.specs.World.{Turn, Conn, World, with_conn, opened, nothing_made, conn_held, after_piece, IsPiece, closed, gone, handed, is_last, conn_after, with_send, GoesOn, IsAfterSend, IsSent, IsReady, Happens, Run}
 use Rattle.outside_traits.specs.Links.{front_sent}
 use Rattle.served_runs.specs.Whole.{IsHeadRead, ReadsAll}

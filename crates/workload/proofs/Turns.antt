@@ -1,9 +1,9 @@
 -- One request after the other.
-use Rattle.std.proofs.Common.{◌≡◌, ℕ, zero, suc, ◌+◌, List, [], ◌∷◌, ◌++◌, length, map, filter, refl, sym, ap, ◌∙◌, append_assoc, append-nil, arith}
+use Rattle.std.proofs.Common.{◌≡◌, ℕ, zero, suc, ◌+◌, List, [], ◌∷◌, ◌++◌, map, refl, sym, ap, ◌∙◌, append_assoc, append-nil, arith}
 use Rattle.std.specs.List.{flat_map}
 use Rattle.event_script.specs.declared.script.Timed.{Timed}
 use Rattle.event_script.specs.declared.script.Script.{Script}
-use Rattle.event_script.specs.Line.{Line, stop, says}
+use Rattle.event_script.specs.Line.{stop, says}
 use Rattle.event_script.specs.Script.{timed_from, timed_of, word_part, words_of, Says}
 use Rattle.workload.specs.Sequence.{next_number}
 use Rattle.workload.specs.Requests.{authorize, create_bucket, get_upload_url}

@@ -1,4 +1,4 @@
-use Rattle.std.proofs.Common.{◌≡◌, ◌∙◌, arith}
+use Rattle.std.proofs.Common.{◌∙◌, arith}
 use Rattle.workload.proofs.Turns.{next_stands, says_so}
 use Rattle.workload.proofs.make.make_workload.Goals as goal
 
