@@ -246,7 +246,8 @@ impl Incoming {
     // The bytes that are kept came after the head of a call.
     fn gather(&mut self, alloc: Global, head: Head) -> Result<Vec<Act>, Memory>
         ensures { (before : ℕ) (got : List ℕ) → HasFlags before nothing self.old
-            → self.old.head ≡ None → IsRead before got head self.old.bytes.items → is_upload head.route.name ≡ false
+            → self.old.head ≡ None → IsRead before got head self.old.bytes.items
+            → is_upload head.route.name ≡ false
             → IfOk result (λ acts. Gives before got nothing [] acts.items self.new) }
     {
         let need = head.request.length;

@@ -18,7 +18,8 @@ use std::collections::BTreeMap;
 /// The most connections that are open at once.
 const MOST_OPEN: usize = 32;
 
-/// The most bytes that a connection keeps of its request: those of a head and of the body of a call.
+/// The most bytes that a connection holds of its request: those of a head, and of the body of a
+/// call.
 pub const MOST_KEPT: usize = 1_064_960;
 
 /// As many connections are open as may be.
@@ -159,8 +160,8 @@ impl<B: Drop> Conns<B> {
         reply
     }
 
-    /// How many bytes the connection keeps as they came, of its request or after it. A head that was
-    /// read is kept in its parts beside them.
+    /// How many bytes the connection keeps as they came, of its request or after it. A head that
+    /// was read is kept in its parts beside them.
     pub fn kept(&self, c: ConnNum) -> usize
         ensures size { result ≡ kept_at self.now c }
         ensures request { (a : Talk B) → IsTalk self.now c (Some a)

@@ -1,5 +1,5 @@
-//! Workloads: scripts of requests that a seed determines, over a fresh store. Each request comes on a
-//! connection of its own.
+//! Workloads: scripts of requests that a seed determines, over a fresh store. Each request comes on
+//! a connection of its own.
 #![tactic(auto)]
 
 mod laws;

@@ -73,8 +73,8 @@ pub fn create_bucket(alloc: Global) -> Result<Vec<u8>, Memory>
     ensures bytes { IfOk result (λ v. v.items ≡ create_bucket) }
     ensures short { IfOk result (λ v. length v.items ≤ 1024) }
 {
-    let body =
-        b"{\"accountId\":\"a1b2c3d4e5f6\",\"bucketName\":\"workload\",\"bucketType\":\"allPrivate\"}";
+    let body = b"{\"accountId\":\"a1b2c3d4e5f6\",\"bucketName\":\"workload\",\
+        \"bucketType\":\"allPrivate\"}";
     let bytes = post(alloc, b"b2_create_bucket", body)?;
     Ok(bytes)
 }
