@@ -7,4 +7,4 @@ mod incoming;
 mod table;
 
 pub use incoming::MOST_HELD;
-pub use table::{Conns, MOST_KEPT, TooMany};
+pub use table::{Conns, MOST_OF_REQUEST, TooMany};

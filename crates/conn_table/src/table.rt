@@ -20,7 +20,7 @@ const MOST_OPEN: usize = 32;
 
 /// The most bytes that a connection holds of its request: those of a head, and of the body of a
 /// call.
-pub const MOST_KEPT: usize = 1_064_960;
+pub const MOST_OF_REQUEST: usize = 1_064_960;
 
 /// As many connections are open as may be.
 #[derive(Clone, Copy, Debug, PartialEq, Eq)]
@@ -73,7 +73,7 @@ impl<B: Drop> Conns<B> {
         requires { (a : Talk B) × IsTalk self.old c (Some a) }
         ensures acts { (a : Talk B) → IsTalk self.old c (Some a) → IfOk result (λ acts.
             (b : Talk B) × TakesPiece a bytes.now acts.items b × IsTalk self.new c (Some b)) }
-        ensures held { OnOk result (held_at self.new c ≤ MOST_KEPT) }
+        ensures held { OnOk result (held_at self.new c ≤ MOST_OF_REQUEST) }
         ensures behind { IsSome (pending_at self.old c)
             → OnOk result (held_at self.new c ≤ MOST_HELD) }
         ensures others { KeepsOthers c self.old self.new }
@@ -91,7 +91,7 @@ impl<B: Drop> Conns<B> {
         requires { (a : Talk B) × IsTalk self.old c (Some a) }
         ensures acts { (a : Talk B) → IsTalk self.old c (Some a) → IfOk result (λ acts.
             (b : Talk B) × TakesPiece a [] acts.items b × IsTalk self.new c (Some b)) }
-        ensures held { OnOk result (held_at self.new c ≤ MOST_KEPT) }
+        ensures held { OnOk result (held_at self.new c ≤ MOST_OF_REQUEST) }
         ensures others { KeepsOthers c self.old self.new }
         ensures count { count_of self.new ≡ count_of self.old }
     {
@@ -165,7 +165,7 @@ impl<B: Drop> Conns<B> {
     pub fn kept(&self, c: ConnNum) -> usize
         ensures size { result ≡ kept_at self.now c }
         ensures request { (a : Talk B) → IsTalk self.now c (Some a)
-            → held_at self.now c ≤ MOST_KEPT }
+            → held_at self.now c ≤ MOST_OF_REQUEST }
         ensures behind { (a : Talk B) → IsTalk self.now c (Some a) → IsSome a.reply
             → held_at self.now c ≤ MOST_HELD }
     {
