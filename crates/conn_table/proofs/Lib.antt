@@ -1,3 +1,5 @@
+pub mod Heads
+pub mod Bounds
 pub mod Held
 pub mod Steps
 pub mod Talks

@@ -1,5 +1,5 @@
 -- The steps that give acts.
-use Rattle.std.proofs.Common.{◌≡◌, ℕ, ◌+◌, ◌<◌, ◌≤◌, ◌⊎◌, inl, inr, Bool, true, false, cond, List, [], ◌∷◌, ◌++◌, length, take, drop, Option, Some, MatchOption, refl, sym, ap, ◌∙◌, subst, append_assoc, arith}
+use Rattle.std.proofs.Common.{◌≡◌, ℕ, ◌+◌, ◌<◌, ◌≤◌, ◌⊎◌, inl, inr, Bool, true, false, cond, List, [], ◌∷◌, ◌++◌, length, take, drop, Option, Some, None, MatchOption, refl, sym, ap, ◌∙◌, subst, append_assoc, arith}
 use Rattle.std.proofs.lemmas.Bool.{cases_lt}
 use Rattle.std.proofs.lemmas.List.{length-append, take_all, take_at, drop_at}
 use Rattle.rule_table.specs.declared.fault.FaultKind.{FaultKind}
@@ -47,10 +47,11 @@ pub by_told : (before : ℕ) (bytes got : List ℕ) (told : Asked) (acts : List 
 by_told before bytes got told acts k none same gives = subst (λ (a : Asked). Gives before got a [] acts k) (sym none) (subst (λ (l : List ℕ). Gives before l nothing [] acts k) (sym same) gives)
 
 -- the head has not ended
-pub gives_seeking : (before : ℕ) (bytes : List ℕ) (k : Incoming) (n : ℕ) → HasFlags before nothing k → k.stage ≡ stage.Seeking n → n ≡ length bytes → k.bytes.items ≡ bytes → IsCut bytes NotYet → Gives before bytes nothing [] [] k
-gives_seeking before bytes k n flags at size kept cut =
+pub gives_seeking : (before : ℕ) (bytes : List ℕ) (k : Incoming) (n : ℕ) → HasFlags before nothing k → k.stage ≡ stage.Seeking n → n ≡ length bytes → k.bytes.items ≡ bytes → k.head ≡ None → IsCut bytes NotYet → Gives before bytes nothing [] [] k
+gives_seeking before bytes k n flags at size kept no_head cut =
     let none : IsCut (take n bytes) NotYet = subst (λ (l : List ℕ). IsCut l NotYet) (sym (take_all n bytes (omega (arith, size)))) cut in
-    let here : IsAt before bytes nothing (stage.Seeking n) k.head k.bytes.items = (refl, record { kept_is = kept; within = omega (arith, size); none = λ _. none }) in
+    let short = cut.0 in
+    let here : IsAt before bytes nothing (stage.Seeking n) k.head k.bytes.items = (refl, record { kept_is = kept; within = omega (arith, size); none = λ _. none; few = omega (arith, short) }, no_head) in
     record {
       new = nothing;
       asked = (NotYet, cut, refl);
@@ -78,15 +79,15 @@ is_read before bytes front rest end asked route head cut same request is after =
   rest_is = after;
 }
 
-pub gives_refused : (before : ℕ) (bytes : List ℕ) (k : Incoming) (fault : Fault) (kind : FaultKind) → HasFlags before nothing k → k.stage ≡ stage.Closed → fault ≡ plain kind → IsAsked before bytes (refused kind)
+pub gives_refused : (before : ℕ) (bytes : List ℕ) (k : Incoming) (fault : Fault) (kind : FaultKind) → HasFlags before nothing k → k.stage ≡ stage.Closed → k.bytes.items ≡ [] → k.head ≡ None → fault ≡ plain kind → IsAsked before bytes (refused kind)
     → Gives before bytes nothing [] (act.Refuse fault ∷ []) k
-gives_refused before bytes k fault kind flags at same asked = record {
+gives_refused before bytes k fault kind flags at none no_head same asked = record {
   new = refused kind;
   asked = asked;
   acts_are = ap (λ f. act.Refuse f ∷ []) same;
   reading = record {
     flags = record { before_is = flags.before_is; stay_is = flags.stay_is; upload_is = flags.upload_is };
-    at = subst (λ (s : Stage). IsAt before bytes (refused kind) s k.head k.bytes.items) (sym at) (asked, tt);
+    at = subst (λ (s : Stage). IsAt before bytes (refused kind) s k.head k.bytes.items) (sym at) (asked, tt, none, no_head);
   };
 }
 
@@ -107,12 +108,12 @@ gives_gathering before bytes head kept k flags at has same read call short =
 
 -- a whole request, of whose bytes some may be held
 pub at_complete : (before : ℕ) (bytes : List ℕ) (head : Head) (body rest : List ℕ) (at : Stage) (slot : Option Head) (kept : List ℕ) → IsAsked before bytes (complete head body rest) → IsHeld (complete head body rest) at kept
-    → IsAt before bytes (complete head body rest) at slot kept
-at_complete before bytes head body rest (stage.Complete says) slot kept asked held = (asked, held)
-at_complete before bytes head body rest (stage.Seeking seen) slot kept asked held = absurd held
-at_complete before bytes head body rest stage.Gathering slot kept asked held = absurd held
-at_complete before bytes head body rest (stage.Uploading left) slot kept asked held = absurd held
-at_complete before bytes head body rest stage.Closed slot kept asked held = absurd held
+    → slot ≡ None → IsAt before bytes (complete head body rest) at slot kept
+at_complete before bytes head body rest (stage.Complete says) slot kept asked held no_head = (asked, held, no_head)
+at_complete before bytes head body rest (stage.Seeking seen) slot kept asked held no_head = absurd held
+at_complete before bytes head body rest stage.Gathering slot kept asked held no_head = absurd held
+at_complete before bytes head body rest (stage.Uploading left) slot kept asked held no_head = absurd held
+at_complete before bytes head body rest stage.Closed slot kept asked held no_head = absurd held
 
 asks_split : (before : ℕ) (bytes : List ℕ) (head : Head) (body rest : List ℕ) → IsRead before bytes head (body ++ rest) → length body ≡ head.request.length → IsAsked before bytes (complete head body rest)
 asks_split before bytes head body rest read size =
@@ -125,8 +126,8 @@ abbrev call_acts : Head → List ℕ → Bool → List Act
 call_acts head body uploads = cond uploads ((act.Begin head ∷ body_acts body) ++ act.End ∷ []) (act.Whole head body ∷ [])
 
 pub gives_call : (before : ℕ) (bytes : List ℕ) (head : Head) (body rest : List ℕ) (k : Incoming) → IsRead before bytes head (body ++ rest) → length body ≡ head.request.length → is_upload head.route.name ≡ false → k.before ≡ before
-    → k.stay ≡ head.request.stay → k.upload ≡ false → IsHeld (complete head body rest) k.stage k.bytes.items → Gives before bytes nothing [] (act.Whole head body ∷ []) k
-gives_call before bytes head body rest k read size call same stay upload held =
+    → k.stay ≡ head.request.stay → k.upload ≡ false → k.head ≡ None → IsHeld (complete head body rest) k.stage k.bytes.items → Gives before bytes nothing [] (act.Whole head body ∷ []) k
+gives_call before bytes head body rest k read size call same stay upload no_head held =
     let asked = asks_split before bytes head body rest read size in
     record {
       new = complete head body rest;
@@ -134,15 +135,15 @@ gives_call before bytes head body rest k read size call same stay upload held =
       acts_are = ap (call_acts head body) (sym call);
       reading = record {
         flags = record { before_is = same; stay_is = stay; upload_is = upload ∙ sym call };
-        at = at_complete before bytes head body rest k.stage k.head k.bytes.items asked held;
+        at = at_complete before bytes head body rest k.stage k.head k.bytes.items asked held no_head;
       };
     }
 
 -- ---- bytes of an upload
 
 pub gives_part : (before : ℕ) (got : List ℕ) (head : Head) (came bytes : List ℕ) (first : List Act) (left : ℕ) (k : Incoming) → HasFlags before (begun head came) k → k.stage ≡ stage.Uploading left → k.bytes.items ≡ []
-    → IsRead before got head (came ++ bytes) → is_upload head.route.name ≡ true → length (came ++ bytes) + left ≡ head.request.length → 0 < left → Gives before got (begun head came) first (first ++ body_acts bytes) k
-gives_part before got head came bytes first left k flags at none read upload size short =
+    → k.head ≡ None → IsRead before got head (came ++ bytes) → is_upload head.route.name ≡ true → length (came ++ bytes) + left ≡ head.request.length → 0 < left → Gives before got (begun head came) first (first ++ body_acts bytes) k
+gives_part before got head came bytes first left k flags at none no_head read upload size short =
     let here : IsUploading before got (begun head (came ++ bytes)) left k.bytes.items = record {
       head = head;
       came = came ++ bytes;
@@ -159,14 +160,14 @@ gives_part before got head came bytes first left k flags at none read upload siz
       acts_are = ap (λ l. first ++ body_acts l) (sym (drop_at came bytes (length came) refl));
       reading = record {
         flags = record { before_is = flags.before_is; stay_is = flags.stay_is; upload_is = flags.upload_is };
-        at = subst (λ (s : Stage). IsAt before got (begun head (came ++ bytes)) s k.head k.bytes.items) (sym at) here;
+        at = subst (λ (s : Stage). IsAt before got (begun head (came ++ bytes)) s k.head k.bytes.items) (sym at) (here, no_head);
       };
     }
 
 pub gives_end : (before : ℕ) (got : List ℕ) (head : Head) (came body rest : List ℕ) (first : List Act) (k : Incoming) → HasFlags before (begun head came) k → IsRead before got head (came ++ (body ++ rest))
-    → is_upload head.route.name ≡ true → length came + length body ≡ head.request.length → IsHeld (complete head (came ++ body) rest) k.stage k.bytes.items
+    → is_upload head.route.name ≡ true → length came + length body ≡ head.request.length → k.head ≡ None → IsHeld (complete head (came ++ body) rest) k.stage k.bytes.items
     → Gives before got (begun head came) first ((first ++ body_acts body) ++ act.End ∷ []) k
-gives_end before got head came body rest first k flags read upload size held =
+gives_end before got head came body rest first k flags read upload size no_head held =
     let sizes = length-append came body in
     let read_so : IsRead before got head ((came ++ body) ++ rest) = subst (IsRead before got head) (sym (append_assoc came body rest)) read in
     let asked = asks_split before got head (came ++ body) rest read_so (omega (arith, size, sizes)) in
@@ -176,7 +177,7 @@ gives_end before got head came body rest first k flags read upload size held =
       acts_are = append_assoc first (body_acts body) (act.End ∷ []) ∙ ap (λ l. first ++ (body_acts l ++ act.End ∷ [])) (sym (drop_at came body (length came) refl));
       reading = record {
         flags = record { before_is = flags.before_is; stay_is = flags.stay_is; upload_is = flags.upload_is };
-        at = at_complete before got head (came ++ body) rest k.stage k.head k.bytes.items asked held;
+        at = at_complete before got head (came ++ body) rest k.stage k.head k.bytes.items asked held no_head;
       };
     }
 
@@ -205,11 +206,11 @@ begin_first before got head rest acts k read upload gives = record {
 -- ---- bytes after a request
 
 pub gives_held : (before : ℕ) (got more : List ℕ) (told : Asked) (says : Bool) (slot : Option Head) (kept : List ℕ) (k : Incoming) → HasFlags before told k → IsAsked before got told → IsHeld told (stage.Complete says) kept
-    → IsHeld (with_more told more) k.stage k.bytes.items → Gives before (got ++ more) told [] [] k
-gives_held before got more nothing says slot kept k flags asked held after = absurd held
-gives_held before got more (refused kind) says slot kept k flags asked held after = absurd held
-gives_held before got more (begun head came) says slot kept k flags asked held after = absurd held
-gives_held before got more (complete head body rest) says slot kept k flags asked held after =
+    → k.head ≡ None → IsHeld (with_more told more) k.stage k.bytes.items → Gives before (got ++ more) told [] [] k
+gives_held before got more nothing says slot kept k flags asked held no_head after = absurd held
+gives_held before got more (refused kind) says slot kept k flags asked held no_head after = absurd held
+gives_held before got more (begun head came) says slot kept k flags asked held no_head after = absurd held
+gives_held before got more (complete head body rest) says slot kept k flags asked held no_head after =
     let further = complete_more before got more head body rest asked in
     record {
       new = complete head body (rest ++ more);
@@ -217,7 +218,7 @@ gives_held before got more (complete head body rest) says slot kept k flags aske
       acts_are = refl;
       reading = record {
         flags = record { before_is = flags.before_is; stay_is = flags.stay_is; upload_is = flags.upload_is };
-        at = at_complete before (got ++ more) head body (rest ++ more) k.stage k.head k.bytes.items further after;
+        at = at_complete before (got ++ more) head body (rest ++ more) k.stage k.head k.bytes.items further after no_head;
       };
     }
 
@@ -234,5 +235,5 @@ gives_closed before got more told k reading at = closed told reading.flags (subs
           new = refused kind;
           asked = further;
           acts_are = refl;
-          reading = record { flags = flags; at = subst (λ (s : Stage). IsAt before (got ++ more) (refused kind) s k.head k.bytes.items) (sym at) (further, tt) };
+          reading = record { flags = flags; at = subst (λ (s : Stage). IsAt before (got ++ more) (refused kind) s k.head k.bytes.items) (sym at) (further, tt, is.2, is.3) };
         }

@@ -79,7 +79,7 @@ module _ {B : Type 0} where
             talk before got (with_more told bytes) (Some p),
             (refl, refl),
             record {
-              incoming = record { flags = flags; held = held; few = λ goes. conn.incoming.few (still_goes told bytes goes) };
+              incoming = record { flags = flags; held = held; few = λ goes. conn.incoming.few (still_goes told bytes goes); no_head = same.head_is ∙ conn.incoming.no_head };
               reply_is = shown;
               pending = conn.pending;
             },

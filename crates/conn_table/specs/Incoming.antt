@@ -1,5 +1,5 @@
 -- What a connection keeps of the bytes that came.
-use Rattle.std.specs.Prelude.{◌≡◌, ◌≤◌, ◌<◌, ◌+◌, ℕ, Bool, true, false, List, [], ◌++◌, length, take, Option, MatchOption, if◌then◌else◌, ⊤}
+use Rattle.std.specs.Prelude.{◌≡◌, ◌≤◌, ◌<◌, ◌+◌, ℕ, Bool, true, false, List, [], ◌++◌, length, take, Option, None, MatchOption, if◌then◌else◌, ⊤}
 use Rattle.http_edge.specs.declared.cut.Cut.TheVariants.{NotYet}
 use Rattle.http_edge.specs.declared.head.Head.{Head}
 use Rattle.http_edge.specs.Cut.{IsCut}
@@ -8,14 +8,16 @@ use Rattle.conn_talk.specs.declared.act.Act.{Act}
 use Rattle.conn_table.specs.declared.incoming.Incoming.{Incoming}
 use Rattle.conn_table.specs.declared.incoming.Stage.{Stage}
 use Rattle.conn_table.specs.declared.incoming.Stage.TheVariants as stage
-use Rattle.conn_talk.specs.Asked.{Asked, nothing, refused, begun, complete, last_request, IsRead, IsAsked, stay_of, is_begun, goes_on}
+use Rattle.conn_talk.specs.Asked.{Asked, nothing, refused, begun, complete, last_request, most_held, IsRead, IsAsked, stay_of, is_begun, goes_on}
 use Rattle.conn_talk.specs.Acts.{acts_after}
 
--- the end of the head is looked for, and is not among so many bytes
+-- the end of the head is looked for, and is not among so many bytes: those of a head that has not ended, or those
+-- that were held behind the request before
 pub record IsSeeking (seen : ℕ) (bytes kept : List ℕ) : Type 0 where
   pub kept_is : kept ≡ bytes
   pub within : seen ≤ length bytes
   pub none : 0 < seen → IsCut (take seen bytes) NotYet
+  pub few : length bytes ≤ most_held
 
 -- the body of a call has not come whole
 pub record IsGathering (before : ℕ) (bytes : List ℕ) (head : Head) (kept : List ℕ) : Type 0 where
@@ -34,13 +36,13 @@ pub record IsUploading (before : ℕ) (bytes : List ℕ) (told : Asked) (left : 
   pub short : 0 < left
   pub kept_is : kept ≡ []
 
--- which bytes after a request are held
+-- which bytes after a request are held; of one that is not whole nothing more is kept
 abbrev pub IsHeld : Asked → Stage → List ℕ → Type 0
 IsHeld (complete head body rest) (stage.Complete says) kept =
     (says ≡ goes_on (complete head body rest)) × (kept ≡ (if says then rest else []))
 IsHeld (complete head body rest) other kept = ⊥
 IsHeld other (stage.Complete says) kept = ⊥
-IsHeld other more kept = ⊤
+IsHeld other more kept = kept ≡ []
 
 -- the stage says that they are held
 abbrev pub holds_bytes : Stage → Bool
@@ -53,11 +55,11 @@ IsRefused other = ⊥
 
 -- these bytes came of the request, and it was told that they ask for that
 abbrev pub IsAt : ℕ → List ℕ → Asked → Stage → Option Head → List ℕ → Type 0
-IsAt before bytes told (stage.Seeking seen) head kept = (told ≡ nothing) × IsSeeking seen bytes kept
+IsAt before bytes told (stage.Seeking seen) head kept = (told ≡ nothing) × IsSeeking seen bytes kept × (head ≡ None)
 IsAt before bytes told stage.Gathering head kept = (told ≡ nothing) × MatchOption head ⊥ (λ h. IsGathering before bytes h kept)
-IsAt before bytes told (stage.Uploading left) head kept = IsUploading before bytes told left kept
-IsAt before bytes told (stage.Complete says) head kept = IsAsked before bytes told × IsHeld told (stage.Complete says) kept
-IsAt before bytes told stage.Closed head kept = IsAsked before bytes told × IsRefused told
+IsAt before bytes told (stage.Uploading left) head kept = IsUploading before bytes told left kept × (head ≡ None)
+IsAt before bytes told (stage.Complete says) head kept = IsAsked before bytes told × IsHeld told (stage.Complete says) kept × (head ≡ None)
+IsAt before bytes told stage.Closed head kept = IsAsked before bytes told × IsRefused told × (kept ≡ []) × (head ≡ None)
 
 -- the flags say what was told
 pub record HasFlags (before : ℕ) (told : Asked) (k : Incoming) : Type 0 where
@@ -75,6 +77,7 @@ pub record IsWaiting (before : ℕ) (told : Asked) (k : Incoming) : Type 0 where
   pub flags : HasFlags before told k
   pub held : IsHeld told k.stage k.bytes.items
   pub few : goes_on told ≡ true → before < last_request
+  pub no_head : k.head ≡ None
 
 -- the bytes, all that came of the request, ask for this; the acts of it, after what was told, stand after the
 -- first ones
@@ -92,6 +95,7 @@ IsSought (stage.Seeking seen) kept = (seen ≤ length kept) × (0 < seen → IsC
 IsSought other kept = ⊤
 
 pub record SameFlags (old new : Incoming) : Type 0 where
+  pub head_is : new.head ≡ old.head
   pub before_is : new.before ≡ old.before
   pub stay_is : new.stay ≡ old.stay
   pub upload_is : new.upload ≡ old.upload

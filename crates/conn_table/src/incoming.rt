@@ -1,6 +1,6 @@
 //! The bytes of a request as they come.
 
-ghost use Rattle.std.specs.Prelude.{◌≡◌, ◌≤◌, ◌+◌, ℕ, true, false, List, [], ◌++◌, length, drop, min, MatchOption, IfOk, OnOk};
+ghost use Rattle.std.specs.Prelude.{◌≡◌, ◌≤◌, ◌+◌, ℕ, true, false, List, [], ◌++◌, length, drop, min, None, MatchOption, IfOk, OnOk};
 ghost use Rattle.rule_table.specs.declared.fault.FaultKind.{FaultKind as TheKind};
 ghost use Rattle.b2_types.specs.Fault.{plain};
 ghost use Rattle.http_edge.specs.declared.cut.Cut.TheVariants.{Head as HeadCut};
@@ -24,7 +24,7 @@ use std::mem;
 const LAST_REQUEST: u32 = 999;
 
 /// The most bytes after a request that are held while its reply is pending.
-const MOST_HELD: usize = 65_536;
+pub const MOST_HELD: usize = 65_536;
 
 /// How far a request has come.
 #[derive(Clone, Copy, Debug, PartialEq, Eq)]
@@ -140,7 +140,7 @@ impl Incoming {
     // Bytes of the head come.
     fn seek(&mut self, alloc: Global, seen: usize, bytes: &[u8]) -> Result<Vec<Act>, Memory>
         requires { IsSought (Seeking seen) self.old.bytes.items }
-        ensures { (before : ℕ) → HasFlags before nothing self.old
+        ensures { (before : ℕ) → HasFlags before nothing self.old → self.old.head ≡ None
             → IfOk result (λ acts. Gives before (self.old.bytes.items ++ bytes.now) nothing
             [] acts.items self.new) }
     {
@@ -158,7 +158,7 @@ impl Incoming {
     // The head has so many bytes.
     fn read(&mut self, alloc: Global, end: usize) -> Result<Vec<Act>, Memory>
         requires { IsCut self.old.bytes.items (HeadCut end) }
-        ensures { (before : ℕ) → HasFlags before nothing self.old
+        ensures { (before : ℕ) → HasFlags before nothing self.old → self.old.head ≡ None
             → IfOk result (λ acts. Gives before self.old.bytes.items nothing
             [] acts.items self.new) }
     {
@@ -175,7 +175,7 @@ impl Incoming {
     // The form of the request is refused.
     fn refuse(&mut self, alloc: Global, fault: Fault) -> Result<Vec<Act>, Memory>
         ensures { (before : ℕ) (got : List ℕ) (kind : TheKind) → HasFlags before nothing self.old
-            → fault ≡ plain kind → IsAsked before got (refused kind)
+            → self.old.head ≡ None → fault ≡ plain kind → IsAsked before got (refused kind)
             → IfOk result (λ acts. Gives before got nothing [] acts.items self.new) }
     {
         self.close();
@@ -185,7 +185,7 @@ impl Incoming {
     // A head came, and these bytes after it.
     fn start(&mut self, alloc: Global, head: Head, rest: Vec<u8>) -> Result<Vec<Act>, Memory>
         ensures { (before : ℕ) (got : List ℕ) → HasFlags before nothing self.old
-            → IsRead before got head rest.items
+            → self.old.head ≡ None → IsRead before got head rest.items
             → IfOk result (λ acts. Gives before got nothing [] acts.items self.new) }
     {
         if !is_upload(head.route.name) {
@@ -209,7 +209,8 @@ impl Incoming {
         acts: Vec<Act>,
     ) -> Result<Vec<Act>, Memory>
         ensures { (before : ℕ) (got : List ℕ) (head : TheHead) (came : List ℕ)
-            → HasFlags before (begun head came) self.old → self.old.bytes.items ≡ []
+            → HasFlags before (begun head came) self.old → self.old.head ≡ None
+            → self.old.bytes.items ≡ []
             → IsRead before got head (came ++ bytes.now) → is_upload head.route.name ≡ true
             → length came + left ≡ head.request.length
             → IfOk result (λ all. Gives before got (begun head came)
@@ -245,7 +246,8 @@ impl Incoming {
     // The bytes that are kept came after the head of a call.
     fn gather(&mut self, alloc: Global, head: Head) -> Result<Vec<Act>, Memory>
         ensures { (before : ℕ) (got : List ℕ) → HasFlags before nothing self.old
-            → IsRead before got head self.old.bytes.items → is_upload head.route.name ≡ false
+            → self.old.head ≡ None → IsRead before got head self.old.bytes.items
+            → is_upload head.route.name ≡ false
             → IfOk result (λ acts. Gives before got nothing [] acts.items self.new) }
     {
         let need = head.request.length;
@@ -297,6 +299,7 @@ impl Incoming {
     // All bytes that come do nothing.
     fn close(&mut self)
         ensures stage { self.new.stage ≡ Closed }
+        ensures bytes { self.new.bytes.items ≡ [] }
         ensures flags { SameFlags self.old self.new }
     {
         self.stage = Stage::Closed;
@@ -310,7 +313,10 @@ impl Incoming {
     {
         match self.stage {
             Stage::Complete(_) => {}
-            _ => self.close(),
+            _ => {
+                self.head = None;
+                self.close();
+            }
         }
     }
 

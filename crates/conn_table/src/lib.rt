@@ -6,4 +6,5 @@ mod conn;
 mod incoming;
 mod table;
 
-pub use table::{Conns, TooMany};
+pub use incoming::MOST_HELD;
+pub use table::{Conns, MOST_OF_REQUEST, TooMany};

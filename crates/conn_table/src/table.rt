@@ -6,9 +6,10 @@ ghost use Rattle.b2_base.specs.Failure.{IfFault, UnlessFault};
 ghost use Rattle.conn_talk.specs.declared.pending.Pending.{Pending as TheReply};
 ghost use Rattle.conn_talk.specs.Talk.{Talk, first_talk, TakesPiece, shown, size_of, with_sent, given_back, talk_after, asks_stay, is_uploading};
 ghost use Rattle.conn_table.specs.Ends.{closes};
-ghost use Rattle.conn_table.specs.Table.{conn_at, count_of, pending_at, IsTalk, KeepsOthers};
+ghost use Rattle.conn_table.specs.Table.{conn_at, count_of, held_at, kept_at, pending_at, IsTalk, KeepsOthers};
 
 use crate::conn::Conn;
+use crate::incoming::MOST_HELD;
 use b2_base::{ConnNum, Memory, Or};
 use conn_talk::{Act, Pending};
 use std::alloc::Global;
@@ -16,6 +17,10 @@ use std::collections::BTreeMap;
 
 /// The most connections that are open at once.
 const MOST_OPEN: usize = 32;
+
+/// The most bytes that a connection holds of its request: those of a head, and of the body of a
+/// call.
+pub const MOST_OF_REQUEST: usize = 1_064_960;
 
 /// As many connections are open as may be.
 #[derive(Clone, Copy, Debug, PartialEq, Eq)]
@@ -68,6 +73,9 @@ impl<B: Drop> Conns<B> {
         requires { (a : Talk B) × IsTalk self.old c (Some a) }
         ensures acts { (a : Talk B) → IsTalk self.old c (Some a) → IfOk result (λ acts.
             (b : Talk B) × TakesPiece a bytes.now acts.items b × IsTalk self.new c (Some b)) }
+        ensures held { OnOk result (held_at self.new c ≤ MOST_OF_REQUEST) }
+        ensures behind { IsSome (pending_at self.old c)
+            → OnOk result (held_at self.new c ≤ MOST_HELD) }
         ensures others { KeepsOthers c self.old self.new }
         ensures count { count_of self.new ≡ count_of self.old }
     {
@@ -83,6 +91,7 @@ impl<B: Drop> Conns<B> {
         requires { (a : Talk B) × IsTalk self.old c (Some a) }
         ensures acts { (a : Talk B) → IsTalk self.old c (Some a) → IfOk result (λ acts.
             (b : Talk B) × TakesPiece a [] acts.items b × IsTalk self.new c (Some b)) }
+        ensures held { OnOk result (held_at self.new c ≤ MOST_OF_REQUEST) }
         ensures others { KeepsOthers c self.old self.new }
         ensures count { count_of self.new ≡ count_of self.old }
     {
@@ -149,6 +158,21 @@ impl<B: Drop> Conns<B> {
     {
         let Conn { incoming: _, reply } = self.conns.remove(&c.get())?;
         reply
+    }
+
+    /// How many bytes the connection keeps as they came, of its request or after it. A head that
+    /// was read is kept in its parts beside them.
+    pub fn kept(&self, c: ConnNum) -> usize
+        ensures size { result ≡ kept_at self.now c }
+        ensures request { (a : Talk B) → IsTalk self.now c (Some a)
+            → held_at self.now c ≤ MOST_OF_REQUEST }
+        ensures behind { (a : Talk B) → IsTalk self.now c (Some a) → IsSome a.reply
+            → held_at self.now c ≤ MOST_HELD }
+    {
+        match self.conns.get(&c.get()) {
+            Some(conn) => conn.incoming.bytes.len(),
+            None => 0,
+        }
     }
 
     /// Whether an act told the request of the connection, and its client asks for another one.

@@ -1,6 +1,9 @@
-//! Tests of paths, heads, scripts and of whole runs of the server, by their public calls.
+//! Tests of paths, heads, connections, scripts, workloads and of whole runs of the server, by their
+//! public calls.
 #![tactic(auto)]
 
+#[cfg(test)]
+mod connections;
 #[cfg(test)]
 mod heads;
 #[cfg(test)]
@@ -11,3 +14,5 @@ mod replay;
 mod replies;
 #[cfg(test)]
 mod script;
+#[cfg(test)]
+mod workloads;

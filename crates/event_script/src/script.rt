@@ -43,7 +43,7 @@ pub type ScriptWords = ListWords;
 
 impl Script {
     /// The script without a line.
-    pub(crate) fn new(alloc: Global) -> Script
+    pub fn new(alloc: Global) -> Script
         ensures timed { result.timed.items ≡ [] }
         ensures words { result.words.items ≡ [] }
     {
@@ -54,7 +54,7 @@ impl Script {
     }
 
     /// Adds what happens next, at this reading of the clock.
-    pub(crate) fn add_event(&mut self, reading: u64, event: Event) -> Result<(), Memory>
+    pub fn add_event(&mut self, reading: u64, event: Event) -> Result<(), Memory>
         requires { IsShort event }
         ensures timed { OnOk result (self.new.timed.items
             ≡ self.old.timed.items ++ record { reading = reading; event = event } ∷ []) }
@@ -65,7 +65,7 @@ impl Script {
     }
 
     /// Adds the next random word.
-    pub(crate) fn add_word(&mut self, word: u64) -> Result<(), Memory>
+    pub fn add_word(&mut self, word: u64) -> Result<(), Memory>
         ensures words { OnOk result (self.new.words.items ≡ self.old.words.items ++ word ∷ []) }
         ensures timed { OnOk result (self.new.timed ≡ self.old.timed) }
     {

@@ -9,7 +9,7 @@ use Rattle.conn_table.proofs.Steps.{by_acts, gives_gathering, gives_call}
 use Rattle.conn_table.proofs.incoming.Incoming.gather.Goals as goal
 
 pub returns-then-len-need : goal.returns-then-len-need
-returns-then-len-need c = λ before got flags read call.
+returns-then-len-need c = λ before got flags no_head read call.
     let old = c.args.self.now in
     let k : Incoming = record { before = old.before; stage = stage.Gathering; bytes = old.bytes; head = Some c.args.head; stay = old.stay; upload = old.upload } in
     let short : length old.bytes.items < c.args.head.request.length = omega (arith, c.if-len-need.true, c.len.ensures) in
@@ -17,7 +17,7 @@ returns-then-len-need c = λ before got flags read call.
     (gives_gathering before got c.args.head old.bytes.items k (record { before_is = flags.before_is; stay_is = flags.stay_is; upload_is = flags.upload_is }) refl refl refl read call short)
 
 pub returns : goal.returns
-returns c = λ before got flags read call.
+returns c = λ before got flags no_head read call.
     let head = c.args.head in
     let kept = c.args.self.now.bytes.items in
     let need = head.request.length in
@@ -29,4 +29,4 @@ returns c = λ before got flags read call.
     let read_so : IsRead before got head (take need kept ++ drop need kept) = subst (IsRead before got head) (sym (take-append-drop need kept)) read in
     let same = c.complete.ensures.flags in
     by_acts before got nothing [] c.in_ok-vec.field-0.items (act.Whole head (take need kept) ∷ []) c.complete.new.self (c.in_ok-vec.ensures.items ∙ ap (λ (l : List ℕ). act.Whole head l ∷ []) body_is)
-    (gives_call before got head (take need kept) (drop need kept) c.complete.new.self read_so (length-take-le need kept fits) call (same.before_is ∙ flags.before_is) same.stay_is (same.upload_is ∙ flags.upload_is) held)
+    (gives_call before got head (take need kept) (drop need kept) c.complete.new.self read_so (length-take-le need kept fits) call (same.before_is ∙ flags.before_is) same.stay_is (same.upload_is ∙ flags.upload_is) (same.head_is ∙ no_head) held)

@@ -13,4 +13,4 @@ returns c = λ before got flags gathering.
     let has : c.args.self.now.head ≡ Some head = sym c.in-Some.ensures.value in
     let here : IsGathering before got head kept = subst (λ (o : Option Head). MatchOption o ⊥ (λ h. IsGathering before got h kept)) has gathering in
     let read : IsRead before (got ++ more) head c.extend_from_slice.new.self.items = subst (IsRead before (got ++ more) head) (sym c.in_ok-extend_from_slice.ensures.items) (read_more before got more head kept here.read) in
-    c.gather.ensures before (got ++ more) (record { before_is = flags.before_is; stay_is = flags.stay_is; upload_is = flags.upload_is }) read here.call
+    c.gather.ensures before (got ++ more) (record { before_is = flags.before_is; stay_is = flags.stay_is; upload_is = flags.upload_is }) c.replace.ensures.after read here.call

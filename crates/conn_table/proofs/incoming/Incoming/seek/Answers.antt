@@ -23,11 +23,11 @@ pub read-requires : goal.read-requires
 read-requires c = subst (λ (l : List ℕ). IsCut l (HeadCut c.in-Head.end)) c.deref.ensures.value c.in-Head.ensures
 
 pub returns-in-Head : goal.returns-in-Head
-returns-in-Head c = λ before flags.
-    subst (λ (l : List ℕ). IfOk c.read.result (λ acts. Gives before l nothing [] acts.items c.read.new.self)) c.in_ok-extend_from_slice.ensures.items (c.read.ensures before (record { before_is = flags.before_is; stay_is = flags.stay_is; upload_is = flags.upload_is }))
+returns-in-Head c = λ before flags no_head.
+    subst (λ (l : List ℕ). IfOk c.read.result (λ acts. Gives before l nothing [] acts.items c.read.new.self)) c.in_ok-extend_from_slice.ensures.items (c.read.ensures before (record { before_is = flags.before_is; stay_is = flags.stay_is; upload_is = flags.upload_is }) no_head)
 
 pub returns-in-NotYet : goal.returns-in-NotYet
-returns-in-NotYet c = λ before flags.
+returns-in-NotYet c = λ before flags no_head.
     let old = c.args.self.now in
     let bytes = old.bytes.items ++ c.args.bytes.now in
     let k : Incoming = record { before = old.before; stage = stage.Seeking c.len.result; bytes = c.extend_from_slice.new.self; head = old.head; stay = old.stay; upload = old.upload } in
@@ -35,10 +35,10 @@ returns-in-NotYet c = λ before flags.
     let long = ap length c.in_ok-extend_from_slice.ensures.items in
     let size : c.len.result ≡ length bytes = omega (arith, long, c.len.ensures) in
     by_acts before bytes nothing [] c.new.result.items [] k c.new.ensures.items
-    (gives_seeking before bytes k c.len.result (record { before_is = flags.before_is; stay_is = flags.stay_is; upload_is = flags.upload_is }) refl size c.in_ok-extend_from_slice.ensures.items (subst (λ (l : List ℕ). IsCut l NotYet) all c.in-NotYet.ensures))
+    (gives_seeking before bytes k c.len.result (record { before_is = flags.before_is; stay_is = flags.stay_is; upload_is = flags.upload_is }) refl size c.in_ok-extend_from_slice.ensures.items no_head (subst (λ (l : List ℕ). IsCut l NotYet) all c.in-NotYet.ensures))
 
 pub returns-in-TooLong : goal.returns-in-TooLong
-returns-in-TooLong c = λ before flags.
+returns-in-TooLong c = λ before flags no_head.
     let bytes = c.args.self.now.bytes.items ++ c.args.bytes.now in
     let all : c.deref.result.now ≡ bytes = c.deref.ensures.value ∙ c.in_ok-extend_from_slice.ensures.items in
-    c.refuse.ensures before bytes LongHead (record { before_is = flags.before_is; stay_is = flags.stay_is; upload_is = flags.upload_is }) c.plain.ensures (asks_long before bytes (subst (λ (l : List ℕ). IsCut l TooLong) all c.in-TooLong.ensures))
+    c.refuse.ensures before bytes LongHead (record { before_is = flags.before_is; stay_is = flags.stay_is; upload_is = flags.upload_is }) no_head c.plain.ensures (asks_long before bytes (subst (λ (l : List ℕ). IsCut l TooLong) all c.in-TooLong.ensures))

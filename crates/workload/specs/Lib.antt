@@ -1,0 +1,3 @@
+pub mod Sequence
+pub mod Requests
+pub mod Workload
