@@ -70,8 +70,13 @@ digits_either bytes at =
     by (inr none) high low = inr (λ digits. none digits.within)
 
 bad_either : (bytes : List ℕ) (at : ℕ) → Either (IsBadEscape bytes at)
-bad_either bytes at =
-    both_either (less_either at (length bytes)) (both_either (cases_eq (slice_index bytes at) 37) (not_either (digits_either bytes at)))
+bad_either bytes at = by (less_either at (length bytes)) (cases_eq (slice_index bytes at) 37) (digits_either bytes at)
+  where
+    by : Either (at < length bytes) → Either (slice_index bytes at ≡ 37) → Either (HasDigitsBehind bytes at) → Either (IsBadEscape bytes at)
+    by (inl within) (inl percent) (inl digits) = inr (λ bad. bad.2 digits)
+    by (inl within) (inl percent) (inr none) = inl (within, percent, none)
+    by (inl within) (inr other) digits = inr (λ bad. other bad.1)
+    by (inr none) percent digits = inr (λ bad. none bad.0)
 
 no_bad_either : (bytes : List ℕ) (end : ℕ) → Either (HasNoBadEscape bytes end)
 no_bad_either bytes end = each_either (λ at. IsBadEscape bytes at → ⊥) (λ at. not_either (bad_either bytes at)) end

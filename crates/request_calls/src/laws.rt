@@ -18,7 +18,6 @@ pub fn one_upload()
 
 /// A request asks for one thing: on the route of its path, head and body give one token or none, and
 /// one call, one upload or one fault.
-#[tactic(auto, using(crate::proofs::Askings::one_asking))]
 pub fn one_asking()
     ensures { (route : TheRoute) (r : TheRequest) (body : List ℕ) (a b : TheAsking)
         → IsPath r.path route → IsAsking route r body a → IsAsking route r body b → a ≡ b }
