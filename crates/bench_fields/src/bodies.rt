@@ -6,13 +6,18 @@ use rule_table::CallName;
 use serde_json::Value;
 use std::alloc::Global;
 
+// 1 where it is well formed.
+fn count(call: &Call) -> usize {
+    match call {
+        Call::Bad(_) => 0,
+        _ => 1,
+    }
+}
+
 /// The call of this name that the body is; 1 where it is well formed.
 pub fn own_call(alloc: Global, name: CallName, body: &[u8]) -> Option<usize> {
-    match read_call(alloc, name, ApiVersion::V3, body) {
-        Ok(Call::Bad(_)) => Some(0),
-        Ok(_) => Some(1),
-        Err(_) => None,
-    }
+    let call = read_call(alloc, name, ApiVersion::V3, body).ok()?;
+    Some(count(&call))
 }
 
 /// The port's own read of the body; it has so many keys.

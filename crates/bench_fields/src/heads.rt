@@ -39,7 +39,9 @@ pub fn own_authorize(alloc: Global, bytes: &[u8]) -> Option<usize> {
     if front.len() > MOST_HEAD {
         return None;
     }
-    let head = read_head(alloc, front).ok()?;
+    let Ok(head) = read_head(alloc, front) else {
+        return None;
+    };
     asked(alloc, &head.route, &head.request)
 }
 
@@ -59,11 +61,7 @@ fn keep(alloc: Global, map: &mut HeaderMap<HeaderValue>, name: &[u8], value: &[u
 }
 
 // The map of all headers.
-fn header_map(
-    alloc: Global,
-    bytes: &[u8],
-    spans: &[HeaderSpan],
-) -> Option<HeaderMap<HeaderValue>> {
+fn header_map(alloc: Global, bytes: &[u8], spans: &[HeaderSpan]) -> Option<HeaderMap<HeaderValue>> {
     let mut map = HeaderMap::new(alloc);
     for header in spans {
         let name = bytes.get(header.name.start..header.name.end)?;
@@ -88,24 +86,39 @@ fn text_at(alloc: Global, bytes: &[u8], start: usize, end: usize) -> Option<Text
     Text::copy(alloc, text).ok()
 }
 
-/// The ports' own read of the head, and what it asks for; 1 where that is well formed. The edge does
-/// not serve uploads yet, so the request is made here.
-pub fn own_upload(alloc: Global, bytes: &[u8]) -> Option<usize> {
+// The ports' own read of the head as a request, but for its length.
+fn request_of(alloc: Global, bytes: &[u8]) -> Option<Request> {
     let mut room = [EMPTY_HEADER_SPAN; 64];
     let spans = spans_of(bytes, &mut room)?;
     let method = text_at(alloc, bytes, spans.method.start, spans.method.end)?;
     let path = text_at(alloc, bytes, spans.path.start, spans.path.end)?;
     let query = Text::copy(alloc, "").ok()?;
-    let route = read_path(path.get().as_bytes())?;
     let headers = header_map(alloc, bytes, room.get(..spans.headers)?)?;
-    let length = body_length(route.name, &headers)?;
-    let request = Request {
+    Some(Request {
         method,
         path,
         query,
         headers,
-        length,
+        length: 0,
         stay: true,
-    };
-    asked(alloc, &route, &request)
+    })
+}
+
+// What the request asks for, with its length; 1 where it is well formed.
+fn measured(alloc: Global, route: &Route, request: Request) -> Option<usize>
+    requires { IsPath request.path route.now }
+{
+    let length = body_length(route.name, &request.headers)?;
+    let request = Request { length, ..request };
+    asked(alloc, route, &request)
+}
+
+/// The ports' own read of the head, and what it asks for; 1 where that is well formed. The edge does
+/// not serve uploads yet, so the request is made here.
+pub fn own_upload(alloc: Global, bytes: &[u8]) -> Option<usize> {
+    let request = request_of(alloc, bytes)?;
+    match read_path(request.path.get().as_bytes()) {
+        Some(route) => measured(alloc, &route, request),
+        None => None,
+    }
 }
