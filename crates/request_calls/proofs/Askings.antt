@@ -1,22 +1,20 @@
 -- A request asks for one thing.
-use Rattle.std.proofs.Common.{◌≡◌, ◌⊎◌, inl, inr, ℕ, List, Option, None, Some, codes, sym, ap, ◌∙◌, subst, refl}
+use Rattle.std.proofs.Common.{◌≡◌, inl, inr, ℕ, List, Option, None, Some, sym, ap, ◌∙◌, subst, refl}
 use Rattle.std.specs.Str.{IsUtf8}
 use Rattle.std.proofs.lemmas.Option.{none-some, same_Some}
 use Rattle.http_header.specs.FieldValue.{FieldValue}
-use Rattle.name_rules.specs.Decode.{decoded_name}
 use Rattle.rule_table.specs.declared.call.CallName.{CallName}
 use Rattle.rule_table.specs.declared.call.CallName.TheVariants as calls
 use Rattle.b2_types.specs.declared.call.Call.{Call}
 use Rattle.b2_types.specs.declared.call.Call.TheVariants as call
 use Rattle.b2_types.specs.declared.call.Credentials.{Credentials}
 use Rattle.b2_types.specs.declared.fault.Target.{Target}
-use Rattle.b2_types.specs.declared.fault.Target.TheVariants as target
 use Rattle.b2_types.specs.declared.kinds.ApiVersion.{ApiVersion}
 use Rattle.b2_types.specs.declared.upload.UploadCall.{UploadCall}
 use Rattle.wire_forms.specs.Basic.{IsBasic}
 use Rattle.wire_forms.specs.declared.request.Request.{Request}
 use Rattle.call_paths.specs.declared.routes.Route.{Route}
-use Rattle.call_paths.specs.Path.{IsDownloadOf, IsPathOf, IsPath}
+use Rattle.call_paths.specs.Path.{IsPathOf, IsPath}
 use Rattle.call_paths.proofs.Paths.{one_pair}
 use Rattle.api_json.specs.Call.{GivesPair, HasCredentials}
 use Rattle.api_json.proofs.Pairs as basic
