@@ -25,7 +25,8 @@ fn told_under(
     message(alloc, call)
 }
 
-fn told(alloc: Global, name: CallName, body: &str) -> Result<Text, Memory> {
+/// The message of the fault of a body of this call; empty for a call.
+pub(crate) fn told(alloc: Global, name: CallName, body: &str) -> Result<Text, Memory> {
     told_under(alloc, name, ApiVersion::V3, body)
 }
 

@@ -1,7 +1,7 @@
 //! Tokens in headers and queries, and downloads.
 
 use b2_base::{Memory, Text};
-use b2_types::{Call, message_of};
+use b2_types::{ByteRange, Call, message_of};
 use call_paths::download_parts;
 use head_fields::{download_by_id, download_by_name, download_token, first_param, token_of};
 use http_header::{HeaderMap, HeaderName, HeaderValue};
@@ -14,14 +14,7 @@ fn request(alloc: Global, query: &str, tokens: &[&[u8]]) -> Result<Request, Fail
 }
 
 fn request_to(alloc: Global, path: &str, query: &str, tokens: &[&[u8]]) -> Result<Request, Fail> {
-    let mut headers = HeaderMap::new(alloc);
-    for token in tokens {
-        let name = HeaderName::from_bytes(alloc, b"authorization")
-            .ok()
-            .ok_or("a name")?;
-        let value = HeaderValue::from_bytes(alloc, token).ok().ok_or("a value")?;
-        headers.append(name, value).ok().ok_or("room")?;
-    }
+    let headers = headers(alloc, b"authorization", tokens)?;
     Ok(Request {
         method: Text::copy(alloc, "GET")?,
         path: Text::copy(alloc, path)?,
@@ -30,6 +23,16 @@ fn request_to(alloc: Global, path: &str, query: &str, tokens: &[&[u8]]) -> Resul
         length: 0,
         stay: false,
     })
+}
+
+fn headers(alloc: Global, name: &[u8], values: &[&[u8]]) -> Result<HeaderMap<HeaderValue>, Fail> {
+    let mut headers = HeaderMap::new(alloc);
+    for value in values {
+        let name = HeaderName::from_bytes(alloc, name).ok().ok_or("a name")?;
+        let value = HeaderValue::from_bytes(alloc, value).ok().ok_or("a value")?;
+        headers.append(name, value).ok().ok_or("room")?;
+    }
+    Ok(headers)
 }
 
 #[test]
@@ -97,6 +100,39 @@ fn downloads_by_id(rt: HostRuntime) -> Result<(), Fail> {
         let request = request(alloc, query, &[])?;
         let call = download_by_id(alloc, &request)?;
         assert_eq!(rt; message(alloc, call)?.get(), fault);
+    }
+    Ok(())
+}
+
+// The range of a download; none for a call that is none.
+fn range(call: &Call) -> Option<ByteRange> {
+    match call {
+        Call::DownloadFileById(download) => download.range,
+        _ => None,
+    }
+}
+
+fn range_by_id(alloc: Global, request: &Request) -> Result<Option<ByteRange>, Memory> {
+    let call = download_by_id(alloc, request)?;
+    Ok(range(&call))
+}
+
+#[test]
+fn ranges_of_downloads(rt: HostRuntime) -> Result<(), Fail> {
+    let alloc = rt.alloc();
+    let rows: [(&[&[u8]], Option<ByteRange>); 6] = [
+        (&[], None),
+        (&[b"bytes=1-2"], Some(ByteRange::Between(1, 2))),
+        (&[b"bytes=-5"], Some(ByteRange::Last(5))),
+        // One of another form is as none, and the first counts.
+        (&[b"items=1-2"], None),
+        (&[b"bytes=3-", b"bytes=1-2"], Some(ByteRange::From(3))),
+        (&[b"bytes=2-1", b"bytes=1-2"], None),
+    ];
+    for (values, asked) in rows {
+        let mut request = request(alloc, "fileId=4_z00000001_f0000000000000001", &[])?;
+        request.headers = headers(alloc, b"range", values)?;
+        assert!(rt; range_by_id(alloc, &request)? == asked);
     }
     Ok(())
 }

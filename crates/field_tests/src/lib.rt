@@ -10,4 +10,6 @@ mod downloads;
 #[cfg(test)]
 mod ranges;
 #[cfg(test)]
+mod shapes;
+#[cfg(test)]
 mod uploads;

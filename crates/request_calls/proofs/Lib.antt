@@ -1,2 +1,4 @@
+pub mod Escapes
 pub mod Others
 pub mod Uploads
+pub mod Askings

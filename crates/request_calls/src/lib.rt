@@ -5,4 +5,4 @@ mod asked;
 mod laws;
 
 pub use asked::{Asked, Asking, read_asked};
-pub use laws::one_upload;
+pub use laws::{one_asking, one_upload};
