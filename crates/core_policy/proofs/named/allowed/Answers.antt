@@ -5,7 +5,7 @@ use Rattle.b2_model.specs.Policy.{call_rules, name_rule, token_rules}
 use Rattle.new_versions.specs.Decided.{refused}
 use Rattle.policy_rules.specs.Asked.{caller, judged}
 use Rattle.core_policy.proofs.Order.{by_front, by_third}
-use Rattle.core_policy.proofs.named.account_for.Goals as goal
+use Rattle.core_policy.proofs.named.allowed.Goals as goal
 
 pub returns-in_err-may_call : goal.returns-in_err-may_call
 returns-in_err-may_call c =
