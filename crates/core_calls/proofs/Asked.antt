@@ -34,10 +34,10 @@ shown_is M t token c own shown passes plan = λ copy words.
     ∙ ap (outcome_of M t words) (plan copy words)
 
 -- what is written
-pub written_is : (M : State Extent) (t : ℕ) (token : Option (List ℕ)) (c : Call) (own : List Check) (r : RecordOf Extent) (shown : Shown) → Refuses M t token c None
-    → ((copy : Copies) (words : List ℕ) → plan_of (at_extents copy) M t words token c ≡ writes own r.change shown) → r.at ≡ t → IsDecision M t token c (decision.Write r (answer.Json shown))
+pub written_is : (M : State Extent) (t : ℕ) (token : Option (List ℕ)) (c : Call) (r : RecordOf Extent) (shown : Shown) → Refuses M t token c None
+    → ((copy : Copies) (words : List ℕ) → (own : List Check) × (plan_of (at_extents copy) M t words token c ≡ writes own r.change shown)) → r.at ≡ t → IsDecision M t token c (decision.Write r (answer.Json shown))
 unfolding IsDecision
-written_is M t token c own r shown passes plan at = λ copy words.
+written_is M t token c r shown passes plan at = λ copy words.
     ap (outcome_or_refusal M t words (plan_of (at_extents copy) M t words token c)) (passes copy words)
-    ∙ ap (outcome_of M t words) (plan copy words)
+    ∙ ap (outcome_of M t words) (plan copy words).1
     ∙ ap (λ n. record { state = after_record (at_moment M t) (record { at = n; change = r.change }); answer = answer.Json shown; words = words }) (sym at)

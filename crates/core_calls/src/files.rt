@@ -8,7 +8,7 @@ ghost use Rattle.core_calls.specs.Decided.{IsDecision};
 use crate::decision::{Decision, plain_refusal, refusal};
 use b2_base::{Memory, Moment, Text};
 use b2_types::{AnswerOf, FileCall, Shown, ShownCancelled};
-use core_policy::{asked_on_file, asker_of, file_for};
+use core_policy::{asker_of, file_for};
 use core_state::Core;
 use large_files::{cancel_large_file, not_large_fault};
 use rule_table::CallName;
@@ -27,8 +27,8 @@ pub fn file_info(
         (calls.GetFileInfo call.now)) }
 {
     let asker = asker_of(core, token);
-    let asked = asked_on_file(CallName::GetFileInfo, call.bucket, call.file);
-    let version = match file_for(core, &asker, &asked, t, call.bucket, call.file) {
+    let name = CallName::GetFileInfo;
+    let version = match file_for(core, &asker, t, name, call.bucket, call.file) {
         Ok(version) => version,
         Err(kind) => return Ok(plain_refusal(kind)),
     };
@@ -51,8 +51,8 @@ pub fn cancel_file(
         (calls.CancelLargeFile call.now)) }
 {
     let asker = asker_of(core, token);
-    let asked = asked_on_file(CallName::CancelLargeFile, call.bucket, call.file);
-    let version = match file_for(core, &asker, &asked, t, call.bucket, call.file) {
+    let name = CallName::CancelLargeFile;
+    let version = match file_for(core, &asker, t, name, call.bucket, call.file) {
         Ok(version) => version,
         Err(kind) => return Ok(plain_refusal(kind)),
     };
