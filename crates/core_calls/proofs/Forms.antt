@@ -112,3 +112,10 @@ decided_for M t token c form who x r own change shown asks passes found plan dec
       (decided copy words).0 ∙ ap (λ (p : Plan Extent). first_fault p.own) (whole copy words),
     ))
     at
+
+-- a rule of its own refuses what it found
+pub refused_found : {X : Type 0} (M : State Extent) (t : ℕ) (token : Option (List ℕ)) (c : Call) (form : Form M t token c X) (who : Caller) (x : X) (fault : Fault) (d : Decision) → who ≡ caller_of M token
+    → d ≡ decision.Reply (answer.Refused fault) → None ≡ first_fault (policy_on M t token c who form) → form.thing ≡ Some x
+    → ((copy : Copies) (words : List ℕ) → Some fault ≡ first_fault (form.plan copy words x).own) → IsDecision M t token c d
+refused_found M t token c form who x fault d asks refused passes found is = refused_by M t token c form who fault d asks refused passes
+    (λ copy words. is copy words ∙ ap (λ o. first_fault (or_absent form.absent (form.plan copy words) o).own) (sym found))

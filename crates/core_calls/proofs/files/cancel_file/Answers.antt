@@ -45,6 +45,6 @@ returns c =
     v r (λ copy words. own) (change.Cancel (id_of v)) (shown.Cancelled (record { account = c.in_ok-account.account; file = c.in_ok-file.file }))
     c.asker_of-asker.ensures c.in-Ok.ensures.rules c.in-Ok.ensures.found
     (λ copy words.
-        ap (λ a. writes own (change.Cancel (id_of v)) (shown.Cancelled (record { account = a; file = shown_name v }))) (sym account)
-        ∙ ap (λ f. writes own (change.Cancel (id_of v)) (shown.Cancelled (record { account = c.in_ok-account.account; file = f }))) (sym c.in_ok-file.ensures))
+    ap (λ a. writes own (change.Cancel (id_of v)) (shown.Cancelled (record { account = a; file = shown_name v }))) (sym account)
+    ∙ ap (λ f. writes own (change.Cancel (id_of v)) (shown.Cancelled (record { account = c.in_ok-account.account; file = f }))) (sym c.in_ok-file.ensures))
     (λ copy words. (decided.0, decided.1.1)) decided.1.0
