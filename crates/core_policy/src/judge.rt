@@ -8,7 +8,6 @@ ghost use Rattle.b2_model.specs.Policy.{call_rules, caller_of, name_rule, token_
 ghost use Rattle.new_versions.specs.Decided.{refused};
 ghost use Rattle.policy_rules.specs.Asked.{caller, judged};
 
-use crate::knows::Knows;
 use b2_base::Moment;
 use b2_types::Target;
 use core_state::Core;
@@ -44,7 +43,7 @@ pub(crate) fn may_call(
     if let Err(denial) = token_rule(asker, asked.need.tokens, Target::Nothing, t) {
         return Err(denial.kind());
     }
-    match call_rule(&Knows { core }, asker, asked) {
+    match call_rule(core, asker, asked) {
         Ok(()) => Ok(()),
         Err(denial) => Err(denial.kind()),
     }
@@ -55,7 +54,7 @@ pub(crate) fn may_name(core: &Core, asker: &Asker<'_>, asked: &Asked<'_>) -> Res
     ensures { refused plain result
         ≡ first_fault (name_rule core.now (judged asked.now) (caller asker.now)) }
 {
-    match name_rule(&Knows { core }, asker, asked) {
+    match name_rule(core, asker, asked) {
         Ok(()) => Ok(()),
         Err(denial) => Err(denial.kind()),
     }

@@ -3,7 +3,6 @@
 
 mod fields;
 mod judge;
-mod knows;
 mod named;
 
 pub use judge::asker_of;
