@@ -1,20 +1,18 @@
 -- A call is decided by the first of its refusals, or by its plan.
-use Rattle.std.proofs.Common.{◌≡◌, ℕ, List, ◌++◌, Option, Some, None, drop, refl, sym, ap, ◌∙◌}
+use Rattle.std.proofs.Common.{◌≡◌, ℕ, List, Option, Some, None, sym, ap, ◌∙◌}
 use Rattle.b2_base.specs.declared.extent.Extent.{Extent}
 use Rattle.b2_types.specs.declared.fault.Fault.{Fault}
 use Rattle.b2_types.specs.declared.call.Call.{Call}
-use Rattle.b2_types.specs.declared.answer.AnswerOf.{AnswerOf}
 use Rattle.b2_types.specs.declared.answer.AnswerOf.TheVariants as answer
 use Rattle.b2_types.specs.declared.shown.Shown.{Shown}
 use Rattle.b2_types.specs.declared.record.RecordOf.{RecordOf}
 use Rattle.b2_model.specs.Checks.{Check, first_fault}
 use Rattle.b2_model.specs.State.{State}
-use Rattle.b2_model.specs.Plan.{Plan, shows, writes}
+use Rattle.b2_model.specs.Plan.{shows, writes}
 use Rattle.b2_model.specs.Changes.{after_record}
-use Rattle.b2_model.specs.Ask.{ask, at_moment, outcome_of, outcome_or_refusal, plan_of, refusals_of}
-use Rattle.core_calls.specs.declared.decision.Decision.{Decision}
+use Rattle.b2_model.specs.Ask.{at_moment, outcome_of, outcome_or_refusal, plan_of, refusals_of}
 use Rattle.core_calls.specs.declared.decision.Decision.TheVariants as decision
-use Rattle.core_calls.specs.Decided.{Copies, IsDecision, at_extents, outcome}
+use Rattle.core_calls.specs.Decided.{Copies, IsDecision, at_extents}
 
 -- the fault of the first refusal, for all that a plan can be
 abbrev Refuses : State Extent → ℕ → Option (List ℕ) → Call → Option Fault → Type 0

@@ -1,5 +1,5 @@
 -- Calls on something that is looked up: the rules of the policy stand first, and then those of its own.
-use Rattle.std.proofs.Common.{◌≡◌, ℕ, true, List, [], ◌∷◌, ◌++◌, Option, Some, None, unwrap_or, refl, sym, ap, subst, ◌∙◌}
+use Rattle.std.proofs.Common.{◌≡◌, ℕ, List, [], ◌++◌, Option, Some, None, unwrap_or, refl, sym, ap, subst, ◌∙◌}
 use Rattle.b2_base.specs.declared.extent.Extent.{Extent}
 use Rattle.rule_table.specs.declared.fault.FaultKind.{FaultKind}
 use Rattle.b2_types.specs.declared.fault.Fault.{Fault}
@@ -10,7 +10,7 @@ use Rattle.b2_types.specs.declared.record.ChangeOf.{ChangeOf}
 use Rattle.b2_types.specs.declared.record.RecordOf.{RecordOf}
 use Rattle.b2_model.specs.Checks.{Check, first_fault}
 use Rattle.b2_model.specs.State.{State}
-use Rattle.b2_model.specs.Policy.{Caller, Judged, caller_of, judged_call}
+use Rattle.b2_model.specs.Policy.{Caller, caller_of, judged_call}
 use Rattle.b2_model.specs.Plan.{Plan, or_absent, shows, writes}
 use Rattle.b2_model.specs.Ask.{plan_of, refusals_of}
 use Rattle.core_policy.specs.Rules.{rules_on, standing}
@@ -94,7 +94,7 @@ written_for M t token c form who x r shown asks passes found plan at =
     (λ copy words. ((plan copy words).0, form.is copy words ∙ plan_is copy words))
     at
 
-some_is : {X : Type 0} (x y : X) → Some x ≡ Some y → x ≡ y
+pub some_is : {X : Type 0} (x y : X) → Some x ≡ Some y → x ≡ y
 some_is x y is = ap (λ o. unwrap_or o x) is
 
 -- it writes the record that was decided on

@@ -1,3 +1,4 @@
 pub mod Asked
-pub mod OnFiles
 pub mod Forms
+pub mod OnBuckets
+pub mod OnFiles

@@ -1,5 +1,5 @@
 -- What calls on a file come to.
-use Rattle.std.proofs.Common.{◌≡◌, ℕ, Bool, false, not, ◌||◌, [], List, Option, None, unwrap_or, ◌∷◌, refl}
+use Rattle.std.proofs.Common.{ℕ, Bool, false, not, ◌||◌, [], List, Option, None, unwrap_or, ◌∷◌, refl}
 use Rattle.b2_base.specs.declared.extent.Extent.{Extent}
 use Rattle.rule_table.specs.declared.cap.Cap.TheVariants.{BypassGovernance}
 use Rattle.rule_table.specs.declared.fault.FaultKind.TheVariants.{NoFile}

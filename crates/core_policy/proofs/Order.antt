@@ -1,5 +1,5 @@
 -- Of rules that stand one after the other, the first that fails is told.
-use Rattle.std.proofs.Common.{◌≡◌, Bool, true, false, List, [], ◌∷◌, ◌++◌, Option, Some, None, refl, sym, ap, ◌∙◌}
+use Rattle.std.proofs.Common.{◌≡◌, Bool, true, false, List, [], ◌∷◌, ◌++◌, Some, None, refl, sym, ap, ◌∙◌}
 use Rattle.b2_types.specs.declared.fault.Fault.{Fault}
 use Rattle.b2_model.specs.Checks.{Check, first_fault, or_else}
 

@@ -1,15 +1,13 @@
 use Rattle.std.proofs.Common.{refl, sym, ap, ◌∙◌}
 use Rattle.std.specs.Option.{option_copied}
-use Rattle.rule_table.specs.declared.cap.Cap.TheVariants.{BypassGovernance}
 use Rattle.b2_types.specs.Fault.{plain}
 use Rattle.b2_types.specs.declared.call.Call.TheVariants as calls
 use Rattle.b2_types.specs.declared.record.ChangeOf.TheVariants as change
 use Rattle.b2_types.specs.declared.shown.Shown.TheVariants as shown
 use Rattle.b2_model.specs.AskFiles.{has_lock}
 use Rattle.b2_model.specs.Checks.{first_fault}
-use Rattle.b2_model.specs.Plan.{id_of, writes}
-use Rattle.b2_model.specs.Policy.{caller_of}
-use Rattle.b2_model.specs.Shown.{may, shown_name}
+use Rattle.b2_model.specs.Plan.{writes}
+use Rattle.b2_model.specs.Shown.{shown_name}
 use Rattle.policy_rules.specs.Asked.{caller}
 use Rattle.core_calls.proofs.Forms.{denied_by, refused_found, written_for}
 use Rattle.core_calls.proofs.OnFiles.{hold_form, hold_rules}

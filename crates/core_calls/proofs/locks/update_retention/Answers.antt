@@ -7,7 +7,7 @@ use Rattle.b2_types.specs.declared.record.ChangeOf.TheVariants as change
 use Rattle.b2_types.specs.declared.shown.Shown.TheVariants as shown
 use Rattle.b2_model.specs.AskFiles.{has_lock}
 use Rattle.b2_model.specs.Checks.{first_fault}
-use Rattle.b2_model.specs.Plan.{id_of, writes}
+use Rattle.b2_model.specs.Plan.{writes}
 use Rattle.b2_model.specs.Policy.{caller_of}
 use Rattle.b2_model.specs.Shown.{may, shown_name}
 use Rattle.policy_rules.specs.Asked.{caller}
