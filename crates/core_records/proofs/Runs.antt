@@ -1,5 +1,5 @@
 -- One more name, and one more bucket, of a pass.
-use Rattle.std.proofs.Common.{◌≡◌, ℕ, zero, suc, ◌+◌, ◌<◌, ◌≤◌, ◌==◌, true, IsSome, Some, List, [], ◌∷◌, get_or, length, take, drop, find, fold, subst, sym, ap, ◌∙◌, refl, add-one, drop-cons, arith}
+use Rattle.std.proofs.Common.{◌≡◌, ℕ, zero, suc, ◌+◌, ◌<◌, ◌≤◌, ◌==◌, true, IsSome, Some, List, [], ◌∷◌, get_or, length, take, drop, find, subst, sym, ap, ◌∙◌, refl, add-one, drop-cons, arith}
 use Rattle.std.specs.Prelude.{if◌then◌else◌, slice_get}
 use Rattle.std.proofs.lemmas.List.Sums.{fold_more}
 use Rattle.b2_types.specs.declared.bucket.Bucket.{Bucket}

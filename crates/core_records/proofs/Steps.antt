@@ -1,20 +1,16 @@
 -- The steps of a pass, one after the other.
-use Rattle.std.proofs.Common.{◌≡◌, ℕ, suc, ◌+◌, ◌<◌, ◌≤◌, ◌==◌, ◌&&◌, ◌||◌, max, nat_le, Bool, true, false, not, cond, IsSome, All, Option, Some, None, List, [], ◌∷◌, ◌++◌, get_or, length, take, drop, find, filter, fold, subst, sym, ap, ◌∙◌, ⊎_elim, refl, arith}
-use Rattle.std.specs.Prelude.{if◌then◌else◌, slice_get}
-use Rattle.std.specs.Option.{is_some}
-use Rattle.std.specs.List.{Contains, list_any}
-use Rattle.std.proofs.lemmas.Bool.{and_parts, cases_Bool, eqb-true, false≢true}
-use Rattle.std.proofs.lemmas.Bool.Decides.{nat_tests}
+use Rattle.std.proofs.Common.{◌≡◌, ℕ, ◌+◌, ◌<◌, ◌≤◌, ◌==◌, ◌&&◌, ◌||◌, nat_le, Bool, true, false, not, IsSome, Option, Some, None, List, [], ◌∷◌, ◌++◌, get_or, length, filter, subst, sym, ap, ◌∙◌, refl, arith}
+use Rattle.std.specs.Prelude.{if◌then◌else◌}
+use Rattle.std.specs.List.{list_any}
+use Rattle.std.proofs.lemmas.Bool.{and_parts, eqb-true, false≢true}
 use Rattle.std.proofs.lemmas.List.Elements.{All-contains}
 use Rattle.b2_types.specs.declared.bucket.Bucket.{Bucket}
 use Rattle.b2_types.specs.declared.bucket.Rule.{Rule}
 use Rattle.b2_types.specs.declared.version.VersionOf.{VersionOf}
-use Rattle.b2_types.specs.declared.record.VersionId.{VersionId}
-use Rattle.b2_model.specs.Kinds.{is_start}
-use Rattle.b2_model.specs.Pass.{is_due, is_same, names_in, rule_for}
+use Rattle.b2_model.specs.Pass.{is_due, names_in, rule_for}
 use Rattle.b2_model.specs.Rows.{rows}
 use Rattle.b2_model.specs.State.{State, bucket_at}
-use Rattle.b2_model.specs.Version.{is_it, marker, with_version, without_version}
+use Rattle.b2_model.specs.Version.{marker, with_version, without_version}
 use Rattle.sound_states.specs.Sound.{IsGiven, IsSound}
 use Rattle.sound_states.proofs.Ascending.{found_any}
 use Rattle.sound_states.proofs.Passed.{all_among}
@@ -23,7 +19,7 @@ use Rattle.index_rows.proofs.Places.{one_number}
 use Rattle.lifecycle_pass.specs.declared.plans.Plan.{Plan}
 use Rattle.lifecycle_pass.specs.Buckets.{ArePlans, IsPlanBy, next_after}
 use Rattle.lifecycle_pass.specs.Names.{AreNumbered, after_plan, rows_of}
-use Rattle.lifecycle_pass.specs.Plans.{IsPlan, files}
+use Rattle.lifecycle_pass.specs.Plans.{files}
 use Rattle.lifecycle_pass.proofs.PlanPass.{filter_twice}
 use Rattle.bucket_pass.specs.Changes.{AreChanges, change, changed, does}
 use Rattle.bucket_pass.specs.declared.walk.NamePlan.{NamePlan}

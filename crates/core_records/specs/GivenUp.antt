@@ -1,5 +1,5 @@
 -- The extents that records give up.
-use Rattle.std.specs.Prelude.{◌≡◌, ℕ, List, [], ◌++◌, Option, Some, None, option_and_then}
+use Rattle.std.specs.Prelude.{◌≡◌, List, [], ◌++◌, Option, Some, None, option_and_then}
 use Rattle.std.specs.List.Sorted.{IsPermutation}
 use Rattle.b2_types.specs.declared.record.ChangeOf.{ChangeOf}
 use Rattle.b2_types.specs.declared.record.ChangeOf.TheVariants as change

@@ -113,15 +113,21 @@ fn dropped_number(of: &ChangeOf<Extent>) -> u32
     }
 }
 
-// The state after a record that applies, and what it gives up.
-fn carried_out(alloc: Global, core: Core, written: Record) -> Result<(Core, List<Extent>), Memory>
+// The state after a record that applies, and what it gives up. `num` is the number of what is dropped.
+fn carried_out(
+    alloc: Global,
+    core: Core,
+    written: Record,
+    num: u32,
+) -> Result<(Core, List<Extent>), Memory>
+    requires bucket { (n : ℕ) → written.change ≡ change.BucketDrop n → num ≡ n }
+    requires key { (n : ℕ) → written.change ≡ change.KeyDrop n → num ≡ n }
     requires fit { IsFitChange written.change }
     requires applies { applies_change core written.change ≡ true }
     ensures state { IfOk result (λ made. made.0 ≡ after_record core written) }
     ensures freed { IfOk result (λ made. AreGivenUp written.change core made.0 made.1) }
 {
     let t = written.at;
-    let num = dropped_number(&written.change);
     match written.change {
         ChangeOf::Settings(_) => unreachable!(),
         ChangeOf::Boot(boot) => Ok(kept(alloc, core.start_boot(alloc, t, boot))),
@@ -178,6 +184,7 @@ pub fn apply(alloc: Global, core: Core, written: Record) -> Result<Applied, Memo
     if !applies(alloc, &core, &written.change) {
         return Ok(Applied::CannotApply(core));
     }
-    let (core, freed) = carried_out(alloc, core, written)?;
+    let num = dropped_number(&written.change);
+    let (core, freed) = carried_out(alloc, core, written, num)?;
     Ok(Applied::Done(core, freed))
 }
