@@ -113,6 +113,20 @@ fn dropped_number(of: &ChangeOf<Extent>) -> u32
     }
 }
 
+fn without_bucket(core: Core, t: Moment, num: u32) -> Core
+    requires { applies_change core (change.BucketDrop num) ≡ true }
+    ensures { result ≡ after_record core (record { at = t; change = change.BucketDrop num }) }
+{
+    core.drop_bucket(t, BucketNum::new(num).unwrap())
+}
+
+fn without_key(core: Core, t: Moment, num: u32) -> Core
+    requires { applies_change core (change.KeyDrop num) ≡ true }
+    ensures { result ≡ after_record core (record { at = t; change = change.KeyDrop num }) }
+{
+    core.drop_key(t, KeyNum::new(num).unwrap())
+}
+
 // The state after a record that applies, and what it gives up. `num` is the number of what is dropped.
 fn carried_out(
     alloc: Global,
@@ -133,15 +147,8 @@ fn carried_out(
         ChangeOf::Boot(boot) => Ok(kept(alloc, core.start_boot(alloc, t, boot))),
         ChangeOf::Pass => pass(alloc, core, t),
         ChangeOf::BucketMake(bucket) => Ok(kept(alloc, core.make_bucket(t, bucket)?)),
-        ChangeOf::BucketDrop(_) => {
-            let num = BucketNum::new(num).unwrap();
-            Ok(kept(alloc, core.drop_bucket(t, num)))
-        }
-        ChangeOf::KeyDrop(_) => {
-            let num = KeyNum::new(num).unwrap();
-            Ok(kept(alloc, core.drop_key(t, num)))
-        }
         ChangeOf::BucketUpdate(bucket) => Ok(kept(alloc, core.update_bucket(t, bucket))),
+        ChangeOf::BucketDrop(_) => Ok(kept(alloc, without_bucket(core, t, num))),
         ChangeOf::Upload(new, content, mark, digest) => {
             let core = core.put_upload(alloc, t, new, content, mark, digest)?;
             Ok(kept(alloc, core))
@@ -168,6 +175,7 @@ fn carried_out(
         }
         ChangeOf::Hold(id, hold) => Ok(kept(alloc, core.put_hold(alloc, t, id, hold)?)),
         ChangeOf::KeyMake(key) => Ok(kept(alloc, core.make_key(t, key)?)),
+        ChangeOf::KeyDrop(_) => Ok(kept(alloc, without_key(core, t, num))),
         ChangeOf::SnapState(numbers) => Ok(kept(alloc, core.put_numbers(alloc, t, numbers))),
         ChangeOf::SnapLarge(new) => Ok(kept(alloc, core.put_large(alloc, t, new)?)),
         ChangeOf::SnapExtents(id, pieces) => {
@@ -176,7 +184,7 @@ fn carried_out(
     }
 }
 
-/// What the record comes to. Where memory is wanting the state is gone.
+/// What the record comes to. Where memory is wanting the state is spent: it is read from its records again.
 pub fn apply(alloc: Global, core: Core, written: Record) -> Result<Applied, Memory>
     requires fit { IsFitChange written.change }
     ensures { IfOk result (λ a. IsApplied core written a) }
