@@ -1,5 +1,5 @@
 -- Rules with a fault are none that a bucket may have.
-use Rattle.std.proofs.Common.{◌≡◌, ℕ, ◌+◌, ◌<◌, ◌≤◌, Bool, true, false, not, cond, ◌&&◌, ◌||◌, List, [], ◌∷◌, length, Option, Some, None, nat_le, nat_lt, refl, ap, arith}
+use Rattle.std.proofs.Common.{◌≡◌, ℕ, ◌+◌, ◌<◌, Bool, true, false, not, cond, ◌&&◌, ◌||◌, List, [], ◌∷◌, length, Option, Some, None, nat_le, nat_lt, refl, ap, arith}
 use Rattle.std.specs.Prelude.{option_map, position, sum_by}
 use Rattle.std.specs.Option.{option_or}
 use Rattle.std.specs.List.{list_all, list_any, position_or_len}

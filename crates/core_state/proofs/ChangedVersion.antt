@@ -1,9 +1,8 @@
 -- A version that is taken out, changed, and put back.
-use Rattle.std.proofs.Common.{◌≡◌, ℕ, ◌==◌, ◌&&◌, Bool, true, false, not, Some, find, filter, subst, sym, ap, ◌∙◌}
+use Rattle.std.proofs.Common.{◌≡◌, ℕ, ◌==◌, ◌&&◌, true, false, not, Some, find, filter, subst, sym, ap, ◌∙◌}
 use Rattle.std.specs.List.{list_any}
 use Rattle.b2_base.specs.declared.extent.Extent.{Extent}
 use Rattle.b2_types.specs.declared.record.ChangeOf.{ChangeOf}
-use Rattle.b2_types.specs.declared.record.RecordOf.{RecordOf}
 use Rattle.b2_types.specs.declared.record.VersionId.{VersionId}
 use Rattle.b2_types.specs.declared.version.VersionOf.{VersionOf}
 use Rattle.b2_model.specs.Changes.{after_change, after_record}

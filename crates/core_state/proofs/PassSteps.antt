@@ -1,5 +1,5 @@
 -- The steps of a pass leave the state whole.
-use Rattle.std.proofs.Common.{◌≡◌, ℕ, ◌+◌, ◌≤◌, ◌<◌, ◌/◌, ◌==◌, max, Bool, true, false, not, ◌&&◌, IsSome, List, [], ◌∷◌, filter, map, subst, sym, ap, ◌∙◌, refl, arith}
+use Rattle.std.proofs.Common.{◌≡◌, ℕ, ◌+◌, ◌≤◌, ◌<◌, ◌/◌, ◌==◌, max, true, false, not, ◌&&◌, IsSome, List, [], ◌∷◌, filter, map, subst, sym, ap, ◌∙◌, refl, arith}
 use Rattle.std.specs.List.{list_any}
 use Rattle.std.specs.Option.{is_some}
 use Rattle.b2_base.specs.declared.extent.Extent.{Extent}
@@ -11,7 +11,7 @@ use Rattle.b2_types.specs.declared.record.VersionId.{VersionId}
 use Rattle.b2_types.specs.declared.version.VersionOf.{VersionOf}
 use Rattle.b2_model.specs.Kinds.{day}
 use Rattle.b2_model.specs.Lists.{put_by}
-use Rattle.b2_model.specs.Pass.{is_idle, without_old_grants}
+use Rattle.b2_model.specs.Pass.{without_old_grants}
 use Rattle.b2_model.specs.State.{State, bucket_at}
 use Rattle.b2_model.specs.Stored.{may_make, numbers_of}
 use Rattle.b2_model.specs.Version.{is_it, marker, with_version, without_version}

@@ -1,5 +1,5 @@
 -- Where an item comes among others by number.
-use Rattle.std.proofs.Common.{◌≡◌, ℕ, suc, ◌+◌, ◌<◌, ◌≤◌, ◌==◌, nat_lt, Bool, true, false, not, cond, Option, None, Some, List, [], ◌∷◌, ◌++◌, All, length, take, drop, map, set, refl, sym, ap, ◌∙◌, arith}
+use Rattle.std.proofs.Common.{◌≡◌, ℕ, suc, ◌+◌, ◌<◌, ◌≤◌, ◌==◌, nat_lt, Bool, true, false, not, cond, None, Some, List, [], ◌∷◌, All, length, map, set, refl, sym, ap, arith}
 use Rattle.std.specs.Prelude.{position, unwrap_or, if◌then◌else◌}
 use Rattle.std.specs.List.{insert, position_or_len}
 use Rattle.std.proofs.lemmas.Bool.Decides.{nat_tests}

@@ -1,4 +1,4 @@
-use Rattle.std.proofs.Common.{◌==◌, not, nat_lt, filter, ap, ◌∙◌, arith}
+use Rattle.std.proofs.Common.{nat_lt, ap, ◌∙◌, arith}
 use Rattle.std.specs.List.{insert, position_or_len}
 use Rattle.b2_base.specs.declared.extent.Extent.{Extent}
 use Rattle.b2_types.specs.declared.version.PartOf.{PartOf}

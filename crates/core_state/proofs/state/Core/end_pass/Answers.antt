@@ -1,6 +1,5 @@
-use Rattle.std.proofs.Common.{◌≡◌, ℕ, ◌/◌, ap, sym, ◌∙◌, refl}
+use Rattle.std.proofs.Common.{ℕ, ◌/◌, ap, ◌∙◌}
 use Rattle.b2_model.specs.Kinds.{day}
-use Rattle.b2_model.specs.Pass.{without_old_grants}
 use Rattle.core_state.specs.View.{state_of}
 use Rattle.core_state.specs.declared.parts.Parts.{Parts}
 use Rattle.core_state.proofs.PassSteps.{ended, ended_at}

@@ -1,7 +1,6 @@
 use Rattle.std.proofs.Common.{rules, ◌≡◌, IsSome, subst, sym, ap, ◌∙◌, refl}
 use Rattle.b2_model.specs.State.{bucket_at}
 use Rattle.b2_model.specs.Version.{marker, with_version}
-use Rattle.core_state.specs.View.{state_of}
 use Rattle.core_state.proofs.PassSteps.{hidden, its_number_free}
 use Rattle.core_state.proofs.state.Core.hide_name.Goals as goal
 

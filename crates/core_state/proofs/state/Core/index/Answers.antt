@@ -1,4 +1,4 @@
-use Rattle.std.proofs.Common.{◌≡◌, subst, sym, ap}
+use Rattle.std.proofs.Common.{subst, sym, ap}
 use Rattle.index_rows.specs.OwnRows.{AreNumbered}
 use Rattle.core_state.proofs.state.Core.index.Goals as goal
 

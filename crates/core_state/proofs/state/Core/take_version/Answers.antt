@@ -1,7 +1,6 @@
-use Rattle.std.proofs.Common.{◌≡◌, ◌==◌, ◌&&◌, not, List, filter, ap, ◌∙◌, refl}
+use Rattle.std.proofs.Common.{List, ap}
 use Rattle.b2_base.specs.declared.extent.Extent.{Extent}
 use Rattle.b2_types.specs.declared.version.VersionOf.{VersionOf}
-use Rattle.b2_model.specs.Version.{without_version}
 use Rattle.core_state.specs.declared.parts.Parts.{Parts}
 use Rattle.core_state.proofs.PassSteps.{taken_out}
 use Rattle.core_state.proofs.state.Core.take_version.Goals as goal

@@ -1,4 +1,4 @@
-use Rattle.std.proofs.Common.{◌≡◌, ◌==◌, true, List, map, if◌then◌else◌, subst, sym, ap, refl}
+use Rattle.std.proofs.Common.{◌≡◌, true, List, subst, sym, ap, refl}
 use Rattle.b2_base.specs.declared.extent.Extent.{Extent}
 use Rattle.b2_types.specs.declared.bucket.Bucket.{Bucket}
 use Rattle.b2_types.specs.declared.record.ChangeOf.TheVariants as change
