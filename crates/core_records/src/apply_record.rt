@@ -100,8 +100,8 @@ fn dropped(
     Ok((core, freed))
 }
 
-// The number of what is dropped by the change, of a bucket or of a key. It is read by reference, and not
-// moved out of the change.
+// The number of what is dropped by the change, of a bucket or of a key. It is read by reference,
+// and not moved out of the change.
 fn dropped_number(of: &ChangeOf<Extent>) -> u32
     ensures bucket { (n : ℕ) → of.now ≡ change.BucketDrop n → result ≡ n }
     ensures key { (n : ℕ) → of.now ≡ change.KeyDrop n → result ≡ n }
@@ -127,7 +127,8 @@ fn without_key(core: Core, t: Moment, num: u32) -> Core
     core.drop_key(t, KeyNum::new(num).unwrap())
 }
 
-// The state after a record that applies, and what it gives up. `num` is the number of what is dropped.
+// The state after a record that applies, and what it gives up. `num` is the number of what is
+// dropped.
 fn carried_out(
     alloc: Global,
     core: Core,
@@ -184,7 +185,8 @@ fn carried_out(
     }
 }
 
-/// What the record comes to. Where memory is wanting the state is spent: it is read from its records again.
+/// What the record comes to. Where memory is wanting the state is spent: it is read from its
+/// records again.
 pub fn apply(alloc: Global, core: Core, written: Record) -> Result<Applied, Memory>
     requires fit { IsFitChange written.change }
     ensures { IfOk result (λ a. IsApplied core written a) }

@@ -138,7 +138,8 @@ fn may_make_key(core: &Core, key: &Key) -> bool
     is_number(key.num.get()) & !has_key(core, key.num)
 }
 
-/// Whether the change applies to the state. The settings stand first, before any state, and never apply.
+/// Whether the change applies to the state. The settings stand first, before any state, and never
+/// apply.
 pub fn applies(alloc: Global, core: &Core, change: &ChangeOf<Extent>) -> bool
     ensures { result ≡ applies_change core.now change.now }
 {

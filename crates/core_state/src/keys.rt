@@ -40,7 +40,8 @@ impl Core {
         self
     }
 
-    /// The state after the record of one more opening of the store, without tokens and uploads under way.
+    /// The state after the record of one more opening of the store, without tokens and uploads
+    /// under way.
     pub fn start_boot(mut self, alloc: Global, t: Moment, boot: u32) -> Core
         requires applies { applies_change self (change.Boot boot) ≡ true }
         ensures { result ≡ after_record self (record { at = t; change = change.Boot boot }) }

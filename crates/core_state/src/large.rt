@@ -143,8 +143,8 @@ fn extended(alloc: Global, mut version: Version, pieces: &[Extent]) -> Result<Ve
 }
 
 impl Core {
-    /// The state after the record of a part, whose moment is the part's, and the extent that the part of
-    /// its number held before.
+    /// The state after the record of a part, whose moment is the part's, and the extent that the
+    /// part of its number held before.
     pub fn put_part(
         self,
         alloc: Global,

@@ -50,8 +50,8 @@ impl Core {
         Ok(Core { parts })
     }
 
-    /// Ends a pass at the moment, whose day has its pass now. Tokens that ended a day ago or more are
-    /// forgotten, but those of uploads under way.
+    /// Ends a pass at the moment, whose day has its pass now. Tokens that ended a day ago or more
+    /// are forgotten, but those of uploads under way.
     pub fn end_pass(&mut self, t: Moment)
         ensures { self.new ≡ record (without_old_grants t (record self.old { pass_day = t / day })) {
           now = t;

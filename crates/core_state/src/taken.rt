@@ -24,8 +24,8 @@ pub(crate) fn taken(alloc: Global, parts: &mut Parts, id: VersionId) -> Version
 }
 
 impl Core {
-    /// The state after the record of a version that is dropped, and the version, with the extents that it
-    /// gives up.
+    /// The state after the record of a version that is dropped, and the version, with the extents
+    /// that it gives up.
     pub fn drop_version(mut self, alloc: Global, t: Moment, id: VersionId) -> (Core, Version)
         requires applies { applies_change self (change.VersionDrop id) ≡ true }
         ensures version { version_at self id.bucket id.num ≡ Some result.1 }
@@ -38,8 +38,8 @@ impl Core {
         (self, version)
     }
 
-    /// The state after the record of a large file that is cancelled, and the file, with the extents of its
-    /// parts.
+    /// The state after the record of a large file that is cancelled, and the file, with the extents
+    /// of its parts.
     pub fn cancel(self, alloc: Global, t: Moment, id: VersionId) -> (Core, Version)
         requires applies { applies_change self (change.Cancel id) ≡ true }
         ensures version { version_at self id.bucket id.num ≡ Some result.1 }
