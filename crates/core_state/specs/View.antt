@@ -1,6 +1,7 @@
 -- The state in memory, as the version machine has it.
-use Rattle.std.specs.Prelude.{◌≡◌}
+use Rattle.std.specs.Prelude.{◌≡◌, ◌≤◌}
 use Rattle.b2_base.specs.declared.extent.Extent.{Extent}
+use Rattle.b2_base.specs.declared.numbers.TheConstants.{LAST_VERSION}
 use Rattle.b2_model.specs.State.{State}
 use Rattle.sound_states.specs.Sound.{IsSound}
 use Rattle.auth_grants.specs.Tokens.{grants_of, tokens_of}
@@ -25,7 +26,8 @@ state_of p = record {
   flights = p.flights;
 }
 
--- it is sound, and the tokens know of the uploads that are under way on them
+-- it is sound, the tokens know of the uploads that are under way on them, and no number is given past the last of all
 pub record IsWhole (p : Parts) : Type 0 where
   pub sound : IsSound (state_of p)
   pub tokens : p.tokens ≡ tokens_of (state_of p)
+  pub last : p.settings.last_version ≤ LAST_VERSION

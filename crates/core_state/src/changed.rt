@@ -14,8 +14,13 @@ use b2_base::{Memory, Moment};
 use b2_types::{Retention, Version, VersionId};
 use std::alloc::Global;
 
-// The parts after the record that changed the version, which was taken out.
-fn with_changed(alloc: Global, parts: Parts, t: Moment, version: Version) -> Result<Parts, Memory>
+/// The parts after the record that changed the version, which was taken out.
+pub(crate) fn with_changed(
+    alloc: Global,
+    parts: Parts,
+    t: Moment,
+    version: Version,
+) -> Result<Parts, Memory>
     requires free { list_any (λ v. v.num == version.num) parts.versions ≡ false }
     ensures { IfOk result (λ more. more ≡ record parts {
       now = t;

@@ -1,6 +1,6 @@
 //! Records of keys, of openings and of the numbers of a snapshot.
 
-ghost use Rattle.std.specs.Prelude.{◌≡◌, ◌≤◌, true, OnOk, OnErr};
+ghost use Rattle.std.specs.Prelude.{◌≡◌, ◌≤◌, true, IfOk};
 ghost use Rattle.b2_types.specs.declared.record.ChangeOf.TheVariants as change;
 ghost use Rattle.b2_model.specs.Changes.{after_record};
 ghost use Rattle.b2_model.specs.Plan.{number_end};
@@ -14,51 +14,52 @@ use numbered_items::Numbered;
 use std::alloc::Global;
 
 impl Core {
-    /// A key is made.
-    pub fn make_key(&mut self, t: Moment, key: Key) -> Result<(), Memory>
-        requires applies { applies_change self.old (change.KeyMake key) ≡ true }
-        ensures ok { OnOk result (self.new ≡ after_record self.old
+    /// The state after the record of a key that is made.
+    pub fn make_key(self, t: Moment, key: Key) -> Result<Core, Memory>
+        requires applies { applies_change self (change.KeyMake key) ≡ true }
+        ensures { IfOk result (λ core. core ≡ after_record self
             (record { at = t; change = change.KeyMake key })) }
-        ensures err { OnErr result (self.new ≡ self.old) }
     {
-        let next = self.parts.next_key.get().max(key.num.get() + 1);
-        self.parts.keys.put(key)?;
-        self.parts.next_key = KeyNum::new(next).unwrap();
-        self.parts.now = t;
-        self.parts.kept = t;
-        Ok(())
+        let mut parts = self.parts;
+        let next = parts.next_key.get().max(key.num.get() + 1);
+        parts.keys.put(key)?;
+        parts.next_key = KeyNum::new(next).unwrap();
+        parts.now = t;
+        parts.kept = t;
+        Ok(Core { parts })
     }
 
-    /// A key is dropped.
-    pub fn drop_key(&mut self, t: Moment, num: KeyNum)
-        requires applies { applies_change self.old (change.KeyDrop num) ≡ true }
-        ensures { self.new ≡ after_record self.old
-            (record { at = t; change = change.KeyDrop num }) }
+    /// The state after the record of a key that is dropped.
+    pub fn drop_key(mut self, t: Moment, num: KeyNum) -> Core
+        requires applies { applies_change self (change.KeyDrop num) ≡ true }
+        ensures { result ≡ after_record self (record { at = t; change = change.KeyDrop num }) }
     {
         let _ = self.parts.keys.remove(num.get());
         self.parts.now = t;
         self.parts.kept = t;
+        self
     }
 
-    /// The store is opened once more. Tokens and uploads under way are gone.
-    pub fn start_boot(&mut self, alloc: Global, t: Moment, boot: u32)
-        requires applies { applies_change self.old (change.Boot boot) ≡ true }
-        ensures { self.new ≡ after_record self.old
-            (record { at = t; change = change.Boot boot }) }
+    /// The state after the record of one more opening of the store, without tokens and uploads
+    /// under way.
+    pub fn start_boot(mut self, alloc: Global, t: Moment, boot: u32) -> Core
+        requires applies { applies_change self (change.Boot boot) ≡ true }
+        ensures { result ≡ after_record self (record { at = t; change = change.Boot boot }) }
     {
         self.parts.boot = boot;
         self.parts.tokens = Grants::new(alloc);
         self.parts.flights = Numbered::new(alloc);
         self.parts.now = t;
         self.parts.kept = t;
+        self
     }
 
-    /// The numbers of a snapshot come.
-    pub fn put_numbers(&mut self, alloc: Global, t: Moment, numbers: Numbers)
-        requires applies { applies_change self.old (change.SnapState numbers) ≡ true }
+    /// The state after the record of the numbers of a snapshot.
+    pub fn put_numbers(mut self, alloc: Global, t: Moment, numbers: Numbers) -> Core
+        requires applies { applies_change self (change.SnapState numbers) ≡ true }
         requires buckets { numbers.next_bucket ≤ number_end }
         requires keys { numbers.next_key ≤ number_end }
-        ensures { self.new ≡ after_record self.old
+        ensures { result ≡ after_record self
             (record { at = t; change = change.SnapState numbers }) }
     {
         self.parts.pass_day = numbers.pass_day;
@@ -70,5 +71,6 @@ impl Core {
         self.parts.flights = Numbered::new(alloc);
         self.parts.now = t;
         self.parts.kept = t;
+        self
     }
 }

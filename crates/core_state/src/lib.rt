@@ -1,11 +1,16 @@
 //! The whole state of a store in memory, which clauses see as the state of the version machine.
 #![tactic(auto)]
 
+mod buckets;
 mod changed;
 mod keys;
+mod large;
+mod lookups;
 mod made;
 mod parts;
+mod pass_steps;
 mod state;
 mod taken;
 
+pub use large::contents_in;
 pub use state::Core;

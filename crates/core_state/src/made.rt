@@ -51,8 +51,13 @@ fn version_of(
     }
 }
 
-// The marker that hides the name.
-fn marker_of(alloc: Global, t: Moment, id: VersionId, name: FileName) -> Result<Version, Memory>
+/// The marker that hides the name.
+pub(crate) fn marker_of(
+    alloc: Global,
+    t: Moment,
+    id: VersionId,
+    name: FileName,
+) -> Result<Version, Memory>
     ensures { IfOk result (λ v. v ≡ marker id.bucket id.num name t) }
 {
     Ok(Version {
@@ -72,8 +77,13 @@ fn marker_of(alloc: Global, t: Moment, id: VersionId, name: FileName) -> Result<
     })
 }
 
-// The parts after the record of a new version.
-fn with_version(alloc: Global, parts: Parts, t: Moment, version: Version) -> Result<Parts, Memory>
+/// The parts after the record of a new version.
+pub(crate) fn with_version(
+    alloc: Global,
+    parts: Parts,
+    t: Moment,
+    version: Version,
+) -> Result<Parts, Memory>
     requires free { list_any (λ v. v.num == version.num) parts.versions ≡ false }
     ensures { IfOk result (λ more. more ≡ record parts {
       now = t;

@@ -1,7 +1,8 @@
 //! The state and what is looked up in it.
 
-ghost use Rattle.std.specs.Prelude.{◌≡◌, IfOk};
+ghost use Rattle.std.specs.Prelude.{◌≡◌, ◌≤◌, IfOk};
 ghost use Rattle.std.specs.Option.{option_copied};
+ghost use Rattle.b2_base.specs.declared.numbers.TheConstants.{LAST_VERSION};
 ghost use Rattle.b2_model.specs.Changes.{master_key, state_of_settings};
 ghost use Rattle.b2_model.specs.LiveGrant.{grant_at};
 ghost use Rattle.b2_model.specs.Rows.{version_at};
@@ -53,8 +54,9 @@ fn first_key(alloc: Global, settings: &Settings) -> Key
 }
 
 impl Core {
-    /// The state that settings begin.
+    /// The state that settings begin, by which no number is given past the last of all.
     pub fn new(alloc: Global, settings: Settings, t: Moment) -> Result<Core, Memory>
+        requires last { settings.last_version ≤ LAST_VERSION }
         ensures { IfOk result (λ core. core ≡ state_of_settings settings t) }
     {
         let mut keys = Numbered::new(alloc);

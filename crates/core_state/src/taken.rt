@@ -24,28 +24,32 @@ pub(crate) fn taken(alloc: Global, parts: &mut Parts, id: VersionId) -> Version
 }
 
 impl Core {
-    /// Takes away the version, which is handed out with the extents that it gives up.
-    pub fn drop_version(&mut self, alloc: Global, t: Moment, id: VersionId) -> Version
-        requires applies { applies_change self.old (change.VersionDrop id) ≡ true }
-        ensures version { version_at self.old id.bucket id.num ≡ Some result }
-        ensures state { self.new ≡ after_record self.old
+    /// The state after the record of a version that is dropped, and the version, with the extents
+    /// that it gives up.
+    pub fn drop_version(mut self, alloc: Global, t: Moment, id: VersionId) -> (Core, Version)
+        requires applies { applies_change self (change.VersionDrop id) ≡ true }
+        ensures version { version_at self id.bucket id.num ≡ Some result.1 }
+        ensures state { result.0 ≡ after_record self
             (record { at = t; change = change.VersionDrop id }) }
     {
         self.parts.now = t;
         self.parts.kept = t;
-        taken(alloc, &mut self.parts, id)
+        let version = taken(alloc, &mut self.parts, id);
+        (self, version)
     }
 
-    /// Cancels the large file that was started, which is handed out with the extents of its parts.
-    pub fn cancel(&mut self, alloc: Global, t: Moment, id: VersionId) -> Version
-        requires applies { applies_change self.old (change.Cancel id) ≡ true }
-        ensures version { version_at self.old id.bucket id.num ≡ Some result }
-        ensures state { self.new ≡ after_record self.old
+    /// The state after the record of a large file that is cancelled, and the file, with the extents
+    /// of its parts.
+    pub fn cancel(self, alloc: Global, t: Moment, id: VersionId) -> (Core, Version)
+        requires applies { applies_change self (change.Cancel id) ≡ true }
+        ensures version { version_at self id.bucket id.num ≡ Some result.1 }
+        ensures state { result.0 ≡ after_record self
             (record { at = t; change = change.Cancel id }) }
     {
-        let parts = &mut self.parts;
+        let mut parts = self.parts;
         parts.now = t;
         parts.kept = t;
-        taken(alloc, parts, id)
+        let version = taken(alloc, &mut parts, id);
+        (Core { parts }, version)
     }
 }

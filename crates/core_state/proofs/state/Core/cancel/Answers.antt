@@ -4,7 +4,7 @@ use Rattle.b2_model.specs.Stored.{applies_change}
 use Rattle.core_state.proofs.Whole.{gone}
 use Rattle.core_state.proofs.state.Core.cancel.Goals as goal
 
-pub invariant_of-self : goal.invariant_of-self
-invariant_of-self c =
-    (gone c.self.inside.parts c.taken.new.parts c.args.t (change.Cancel c.args.id) c.args.id c.self.invariant
-    (subst (λ M. applies_change M (change.Cancel c.args.id) ≡ true) (sym c.self.view_is) c.requires.applies) tt c.taken.ensures.left refl).whole
+pub invariant_of-result : goal.invariant_of-result
+invariant_of-result c =
+    (gone c.self.inside.parts c.taken-version.new.parts c.args.t (change.Cancel c.args.id) c.args.id c.self.invariant
+    (subst (λ M. applies_change M (change.Cancel c.args.id) ≡ true) (sym c.self.view_is) c.requires.applies) tt c.taken-version.ensures.left refl).whole

@@ -12,4 +12,4 @@ invariant_of-self c =
     let keys : c.remove.new.self ≡ filter (λ k. not (k.num == c.args.num)) p.keys = subst (λ n. c.remove.new.self ≡ filter (λ k. not (k.num == n)) p.keys) c.get.ensures c.remove.ensures.left in
     whole_after p (record p { now = c.args.t; kept = c.args.t; keys = c.remove.new.self }) (record { at = c.args.t; change = change.KeyDrop c.args.num }) c.self.invariant
     (subst (λ M. applies_change M (change.KeyDrop c.args.num) ≡ true) (sym c.self.view_is) c.requires.applies) tt
-    (ap (λ (ks : List Key). state_of (record p { now = c.args.t; kept = c.args.t; keys = ks })) keys) refl refl
+    (ap (λ (ks : List Key). state_of (record p { now = c.args.t; kept = c.args.t; keys = ks })) keys) refl refl refl

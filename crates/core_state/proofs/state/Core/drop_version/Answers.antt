@@ -6,5 +6,5 @@ use Rattle.core_state.proofs.state.Core.drop_version.Goals as goal
 
 pub invariant_of-self : goal.invariant_of-self
 invariant_of-self c =
-    (gone c.self.inside.parts c.taken.new.parts c.args.t (change.VersionDrop c.args.id) c.args.id c.self.invariant
-    (subst (λ M. applies_change M (change.VersionDrop c.args.id) ≡ true) (sym c.self.view_is) c.requires.applies) tt c.taken.ensures.left refl).whole
+    (gone c.self.inside.parts c.taken-version.new.parts c.args.t (change.VersionDrop c.args.id) c.args.id c.self.invariant
+    (subst (λ M. applies_change M (change.VersionDrop c.args.id) ≡ true) (sym c.self.view_is) c.requires.applies) tt c.taken-version.ensures.left refl).whole

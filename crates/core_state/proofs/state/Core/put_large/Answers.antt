@@ -1,4 +1,4 @@
-use Rattle.std.proofs.Common.{rules, ◌≡◌, true, List, [], ◌∷◌, subst, sym, ap, ◌∙◌, refl}
+use Rattle.std.proofs.Common.{rules, ◌≡◌, true, [], subst, sym, ap, ◌∙◌}
 use Rattle.b2_base.specs.declared.extent.Extent.{Extent}
 use Rattle.b2_types.specs.declared.kinds.Action.TheVariants as action
 use Rattle.b2_types.specs.declared.kinds.Mark.TheVariants as mark

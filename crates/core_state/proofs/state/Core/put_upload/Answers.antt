@@ -1,12 +1,10 @@
-use Rattle.std.proofs.Common.{rules, ◌≡◌, true, List, [], ◌∷◌, subst, sym, ap, ◌∙◌, refl}
+use Rattle.std.proofs.Common.{rules, ◌≡◌, true, List, [], ◌∷◌, subst, sym, ap, ◌∙◌}
 use Rattle.b2_base.specs.declared.extent.Extent.{Extent}
 use Rattle.b2_types.specs.declared.kinds.Action.TheVariants as action
-use Rattle.b2_types.specs.declared.kinds.Mark.TheVariants as mark
 use Rattle.b2_types.specs.declared.version.VersionOf.{VersionOf}
 use Rattle.b2_types.specs.declared.record.ChangeOf.TheVariants as change
-use Rattle.b2_model.specs.Changes.{after_record}
 use Rattle.b2_model.specs.Stored.{applies_change}
-use Rattle.b2_model.specs.Version.{no_digest, version_from, with_version}
+use Rattle.b2_model.specs.Version.{version_from, with_version}
 use Rattle.core_state.specs.View.{state_of}
 use Rattle.core_state.proofs.Whole.{made, free_of}
 use Rattle.core_state.proofs.state.Core.put_upload.Goals as goal

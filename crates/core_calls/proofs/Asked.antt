@@ -1,0 +1,41 @@
+-- A call is decided by the first of its refusals, or by its plan.
+use Rattle.std.proofs.Common.{◌≡◌, ℕ, List, Option, Some, None, sym, ap, ◌∙◌}
+use Rattle.b2_base.specs.declared.extent.Extent.{Extent}
+use Rattle.b2_types.specs.declared.fault.Fault.{Fault}
+use Rattle.b2_types.specs.declared.call.Call.{Call}
+use Rattle.b2_types.specs.declared.answer.AnswerOf.TheVariants as answer
+use Rattle.b2_types.specs.declared.shown.Shown.{Shown}
+use Rattle.b2_types.specs.declared.record.RecordOf.{RecordOf}
+use Rattle.b2_model.specs.Checks.{Check, first_fault}
+use Rattle.b2_model.specs.State.{State}
+use Rattle.b2_model.specs.Plan.{shows, writes}
+use Rattle.b2_model.specs.Changes.{after_record}
+use Rattle.b2_model.specs.Ask.{at_moment, outcome_of, outcome_or_refusal, plan_of, refusals_of}
+use Rattle.core_calls.specs.declared.decision.Decision.TheVariants as decision
+use Rattle.core_calls.specs.Decided.{Copies, IsDecision, at_extents}
+
+-- the fault of the first refusal, for all that a plan can be
+abbrev Refuses : State Extent → ℕ → Option (List ℕ) → Call → Option Fault → Type 0
+Refuses M t token c fault = (copy : Copies) (words : List ℕ) → first_fault (refusals_of (at_extents copy) M t words token c) ≡ fault
+
+pub refused_is : (M : State Extent) (t : ℕ) (token : Option (List ℕ)) (c : Call) (fault : Fault) → Refuses M t token c (Some fault) → IsDecision M t token c (decision.Reply (answer.Refused fault))
+unfolding IsDecision
+refused_is M t token c fault refuses = λ copy words.
+    ap (outcome_or_refusal M t words (plan_of (at_extents copy) M t words token c)) (refuses copy words)
+
+-- what is shown where nothing refuses it
+pub shown_is : (M : State Extent) (t : ℕ) (token : Option (List ℕ)) (c : Call) (own : List Check) (shown : Shown) → Refuses M t token c None
+    → ((copy : Copies) (words : List ℕ) → plan_of (at_extents copy) M t words token c ≡ shows own shown) → IsDecision M t token c (decision.Reply (answer.Json shown))
+unfolding IsDecision
+shown_is M t token c own shown passes plan = λ copy words.
+    ap (outcome_or_refusal M t words (plan_of (at_extents copy) M t words token c)) (passes copy words)
+    ∙ ap (outcome_of M t words) (plan copy words)
+
+-- what is written
+pub written_is : (M : State Extent) (t : ℕ) (token : Option (List ℕ)) (c : Call) (r : RecordOf Extent) (shown : Shown) → Refuses M t token c None
+    → ((copy : Copies) (words : List ℕ) → (own : List Check) × (plan_of (at_extents copy) M t words token c ≡ writes own r.change shown)) → r.at ≡ t → IsDecision M t token c (decision.Write r (answer.Json shown))
+unfolding IsDecision
+written_is M t token c r shown passes plan at = λ copy words.
+    ap (outcome_or_refusal M t words (plan_of (at_extents copy) M t words token c)) (passes copy words)
+    ∙ ap (outcome_of M t words) (plan copy words).1
+    ∙ ap (λ n. record { state = after_record (at_moment M t) (record { at = n; change = r.change }); answer = answer.Json shown; words = words }) (sym at)

@@ -1,0 +1,27 @@
+-- What a call comes to on a state, as the version machine has it.
+use Rattle.std.specs.Prelude.{◌≡◌, ℕ, List, Option}
+use Rattle.b2_base.specs.declared.extent.Extent.{Extent}
+use Rattle.b2_types.specs.declared.call.Call.{Call}
+use Rattle.b2_model.specs.Body.{Body}
+use Rattle.b2_model.specs.State.{State, Pieces}
+use Rattle.b2_model.specs.Changes.{after_record}
+use Rattle.b2_model.specs.Ask.{Outcome, ask, at_moment}
+use Rattle.new_versions.specs.Decided.{extent_len}
+use Rattle.core_calls.specs.declared.decision.Decision.{Decision}
+use Rattle.core_calls.specs.declared.decision.Decision.TheVariants as decision
+
+-- contents at extents, of which copies are made so
+abbrev pub Copies : Type 0
+Copies = List Extent → ℕ → ℕ → Body Extent
+
+abbrev pub at_extents : Copies → Pieces Extent
+at_extents copy = record { size = extent_len; copy = copy }
+
+-- the state's moment alone moves where nothing is written
+abbrev pub outcome : State Extent → ℕ → List ℕ → Decision → Outcome Extent
+outcome M t words (decision.Reply told) = record { state = at_moment M t; answer = told; words = words }
+outcome M t words (decision.Write r told) = record { state = after_record (at_moment M t) r; answer = told; words = words }
+
+-- the machine does and answers just so, and draws no random word
+unfoldable pub IsDecision : State Extent → ℕ → Option (List ℕ) → Call → Decision → Type 0
+IsDecision M t token c d = (copy : Copies) (words : List ℕ) → ask (at_extents copy) M t words token c ≡ outcome M t words d

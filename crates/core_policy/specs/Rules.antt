@@ -1,0 +1,24 @@
+-- The policy on calls, and that what they name stands.
+use Rattle.std.specs.Prelude.{ℕ, true, List, [], ◌∷◌, ◌++◌, Option, Some, None}
+use Rattle.b2_base.specs.declared.extent.Extent.{Extent}
+use Rattle.rule_table.specs.declared.fault.FaultKind.{FaultKind}
+use Rattle.rule_table.specs.declared.cap.Cap.{Cap}
+use Rattle.rule_table.specs.declared.call.CallName.{CallName}
+use Rattle.b2_types.specs.Need.{need}
+use Rattle.b2_types.specs.Naming.{Named}
+use Rattle.b2_model.specs.Checks.{Check, check}
+use Rattle.b2_model.specs.State.{State}
+use Rattle.b2_model.specs.Policy.{Caller, Judged, policy_rules}
+
+-- a call of this name with these fields, which need these capabilities besides
+abbrev pub judged_on : CallName → List Cap → Named → Judged
+judged_on name more fields = record { row = need name; caps = (need name).caps ++ more; fields = fields }
+
+-- that what is named stands
+abbrev pub standing : {X : Type 0} → FaultKind → Option X → List Check
+standing kind None = check kind true ∷ []
+standing kind (Some x) = []
+
+-- the rules of the policy, before whose last stands that what is named is there
+abbrev pub rules_on : State Extent → ℕ → Judged → Caller → List Check → List Check
+rules_on M t j who exists = policy_rules M t j (λ g. true) who exists

@@ -1,0 +1,76 @@
+//! The fields of calls that name something.
+
+ghost use Rattle.std.specs.Prelude.{◌≡◌, Some};
+ghost use Rattle.std.specs.Option.{option_copied};
+ghost use Rattle.b2_types.specs.Naming.{in_bucket, nothing, on_account, on_file, on_name, with_prefix};
+ghost use Rattle.policy_rules.specs.Asked.{named};
+
+use b2_base::{BucketNum, Text, VersionNum};
+use b2_types::VersionId;
+use name_rules::FileName;
+use policy_rules::Fields;
+
+// Nothing is named.
+fn no_fields<'a>() -> Fields<'a>
+    ensures { named result ≡ nothing }
+{
+    Fields {
+        account: None,
+        bucket: None,
+        some_bucket: None,
+        path_bucket: None,
+        file: None,
+        source: None,
+        name: None,
+        prefix: None,
+    }
+}
+
+/// Those of a call on an account, and on a bucket of it where one is named.
+pub(crate) fn account_fields<'a>(account: &'a Text, bucket: Option<BucketNum>) -> Fields<'a>
+    ensures { named result ≡ record (on_account account.now) { bucket = bucket } }
+{
+    let mut fields = no_fields();
+    fields.account = Some(account.get().as_bytes());
+    fields.bucket = bucket;
+    fields
+}
+
+/// Those of a call on a bucket.
+pub(crate) fn bucket_fields<'a>(bucket: BucketNum) -> Fields<'a>
+    ensures { named result ≡ in_bucket bucket }
+{
+    let mut fields = no_fields();
+    fields.bucket = Some(bucket);
+    fields
+}
+
+/// Those of a call on a name in a bucket.
+pub(crate) fn name_fields<'a>(bucket: BucketNum, name: &'a FileName) -> Fields<'a>
+    ensures { named result ≡ on_name bucket name.now }
+{
+    let mut fields = bucket_fields(bucket);
+    fields.name = Some(name.get().as_bytes());
+    fields
+}
+
+/// Those of a call on the names with a prefix in a bucket; none given is the empty one.
+pub(crate) fn prefix_fields<'a>(bucket: BucketNum, prefix: Option<&'a Text>) -> Fields<'a>
+    ensures { named result ≡ with_prefix bucket (option_copied prefix.entry) }
+{
+    let mut fields = bucket_fields(bucket);
+    fields.prefix = match prefix {
+        Some(prefix) => Some(prefix.get().as_bytes()),
+        None => Some(b""),
+    };
+    fields
+}
+
+/// Those of a call on a file.
+pub(crate) fn file_fields<'a>(bucket: BucketNum, file: VersionNum) -> Fields<'a>
+    ensures { named result ≡ on_file bucket file }
+{
+    let mut fields = no_fields();
+    fields.file = Some(VersionId { bucket, num: file });
+    fields
+}

@@ -1,0 +1,4 @@
+pub mod Rules
+pub mod Conserve
+pub mod Steps
+pub mod Runs
