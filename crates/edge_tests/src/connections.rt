@@ -181,6 +181,33 @@ fn requests_in_one_piece(rt: HostRuntime) -> Result<(), Fail> {
     Ok(())
 }
 
+// How many of the requests are answered that come one after the other, each once the one before it
+// is answered.
+fn answered_in_turn(alloc: Global, request: &[u8]) -> Option<u32> {
+    let mut conns = Conns::new(alloc);
+    let c = ConnNum::new(7)?;
+    reopen(alloc, &mut conns, c)?;
+    let mut count = 0u32;
+    'requests: for _ in 0..1_001 {
+        // The connection is closed with the last reply.
+        if feed(alloc, &mut conns, c, request)? == 0 {
+            return Some(count);
+        }
+        count = count.wrapping_add(1);
+        answer(alloc, &mut conns, c)?;
+        send_but(&mut conns, c, 0)?;
+    }
+    None
+}
+
+#[test]
+fn thousandth_request(rt: HostRuntime) -> Result<(), Fail> {
+    let alloc = rt.alloc();
+    let request = format!(in alloc; "{HEAD}abcde")?;
+    assert_eq!(rt; answered_in_turn(alloc, request.as_bytes()), Some(1_000));
+    Ok(())
+}
+
 // The text, and so many bytes after it.
 fn with_more(alloc: Global, text: &str, more: usize) -> Option<Vec<u8>> {
     let mut bytes = text.as_bytes().to_vec(alloc).ok()?;
