@@ -1,4 +1,2 @@
-pub mod Asked
-pub mod Forms
 pub mod OnBuckets
 pub mod OnFiles

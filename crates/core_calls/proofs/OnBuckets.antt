@@ -18,7 +18,7 @@ use Rattle.b2_model.specs.State.{State, bucket_at}
 use Rattle.b2_model.specs.Policy.{caller_of}
 use Rattle.b2_model.specs.Shown.{shown_bucket}
 use Rattle.b2_model.specs.Plan.{Plan, writes}
-use Rattle.core_calls.proofs.Forms.{Form}
+use Rattle.core_decisions.proofs.Forms.{Form}
 
 pub not_not : (b : Bool) → not (not b) ≡ b
 not_not true = refl

@@ -22,7 +22,7 @@ use Rattle.b2_model.specs.Shown.{may, shown_file, shown_name}
 use Rattle.b2_model.specs.AskLarge.{not_large}
 use Rattle.b2_model.specs.Plan.{bad_until, id_of, lock_off, shows, writes}
 use Rattle.new_versions.specs.Decided.{extent_len}
-use Rattle.core_calls.proofs.Forms.{Form}
+use Rattle.core_decisions.proofs.Forms.{Form}
 
 abbrev pub info_form : (M : State Extent) (t : ℕ) (token : Option (List ℕ)) (c : FileCall) → Form M t token (call.GetFileInfo c) (VersionOf Extent)
 info_form M t token c = record {

@@ -11,16 +11,16 @@ ghost use Rattle.b2_model.specs.Shown.{shown_bucket};
 ghost use Rattle.new_versions.specs.Decided.{fault_told};
 ghost use Rattle.bucket_state.specs.Refusals.{bucket_fault};
 ghost use Rattle.core_calls.specs.Buckets.{bucket_in};
-ghost use Rattle.core_calls.specs.declared.decision.Decision.TheVariants as decision;
-ghost use Rattle.core_calls.specs.Decided.{IsDecision};
+ghost use Rattle.core_decisions.specs.declared.decision.Decision.TheVariants as decision;
+ghost use Rattle.core_decisions.specs.Decided.{IsDecision};
 
-use crate::decision::{Decision, plain_refusal, refusal};
 use b2_base::{Memory, Moment, Or, Settings};
 use b2_types::{
     AnswerOf, Bucket, ChangeOf, CreateBucket, DeleteBucket, Key, Record, Shown, ShownBucket,
     UpdateBucket,
 };
 use bucket_state::{BucketRefusal, buckets_create, buckets_remove, buckets_update, fault_of};
+use core_decisions::{Decision, plain_refusal, refusal};
 use core_policy::{account_bucket_for, account_for, asker_of};
 use core_state::Core;
 use rule_table::{CallName, Cap};

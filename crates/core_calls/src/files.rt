@@ -3,11 +3,11 @@
 ghost use Rattle.std.specs.Prelude.{◌≡◌, IfOk};
 ghost use Rattle.std.specs.Option.{option_copied};
 ghost use Rattle.b2_types.specs.declared.call.Call.TheVariants as calls;
-ghost use Rattle.core_calls.specs.Decided.{IsDecision};
+ghost use Rattle.core_decisions.specs.Decided.{IsDecision};
 
-use crate::decision::{Decision, plain_refusal, refusal};
 use b2_base::{Memory, Moment, Text};
 use b2_types::{AnswerOf, FileCall, Shown, ShownCancelled};
+use core_decisions::{Decision, plain_refusal, refusal};
 use core_policy::{asker_of, file_for};
 use core_state::Core;
 use large_files::{cancel_large_file, not_large_fault};

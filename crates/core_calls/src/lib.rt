@@ -1,12 +1,10 @@
-//! What each call comes to on the state in memory.
+//! Calls on buckets and on files, as the state in memory decides them.
 #![tactic(auto)]
 
 mod buckets;
-mod decision;
 mod files;
 mod locks;
 
 pub use buckets::{create_bucket, delete_bucket, update_bucket};
-pub use decision::Decision;
 pub use files::{cancel_file, file_info};
 pub use locks::{delete_version, update_hold, update_retention};

@@ -9,14 +9,14 @@ ghost use Rattle.b2_model.specs.Checks.{check, first_fault};
 ghost use Rattle.b2_model.specs.Kinds.{is_upload};
 ghost use Rattle.b2_model.specs.Locks.{active_retention, deletion_rules, retention_rules};
 ghost use Rattle.b2_model.specs.Plan.{bad_until, id_of, lock_off};
-ghost use Rattle.core_calls.specs.Decided.{IsDecision};
+ghost use Rattle.core_decisions.specs.Decided.{IsDecision};
 
-use crate::decision::{Decision, plain_refusal, refusal};
 use b2_base::{BucketNum, Memory, Moment};
 use b2_types::{
     Action, AnswerOf, ChangeOf, DeleteVersion, Fault, RecordOf, Shown, UpdateHold, UpdateRetention,
     Version, VersionId,
 };
+use core_decisions::{Decision, plain_refusal, refusal};
 use core_policy::{asker_of, file_for};
 use core_state::Core;
 use name_rules::FileName;

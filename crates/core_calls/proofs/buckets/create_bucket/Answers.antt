@@ -14,9 +14,9 @@ use Rattle.new_versions.specs.Decided.{fault_told}
 use Rattle.bucket_state.specs.Refusals.{bucket_fault}
 use Rattle.policy_rules.specs.Asked.{caller}
 use Rattle.core_calls.specs.Buckets.{bucket_in}
-use Rattle.core_calls.specs.Decided.{IsDecision}
-use Rattle.core_calls.specs.declared.decision.Decision.TheVariants as decision
-use Rattle.core_calls.proofs.Forms.{denied_by, refused_by, decided_for, some_is}
+use Rattle.core_decisions.specs.Decided.{IsDecision}
+use Rattle.core_decisions.specs.declared.decision.Decision.TheVariants as decision
+use Rattle.core_decisions.proofs.Forms.{denied_by, refused_by, decided_for, some_is}
 use Rattle.b2_model.specs.AskBuckets.{create_bucket, new_bucket}
 use Rattle.core_calls.proofs.OnBuckets.{create_form}
 use Rattle.core_calls.proofs.buckets.create_bucket.Goals as goal

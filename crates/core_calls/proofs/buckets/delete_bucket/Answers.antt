@@ -10,8 +10,8 @@ use Rattle.b2_model.specs.Policy.{caller_of}
 use Rattle.b2_model.specs.Shown.{shown_bucket}
 use Rattle.bucket_state.specs.Refusals.{bucket_fault}
 use Rattle.policy_rules.specs.Asked.{caller}
-use Rattle.core_calls.specs.declared.decision.Decision.TheVariants as decision
-use Rattle.core_calls.proofs.Forms.{denied_by, refused_by, decided_for}
+use Rattle.core_decisions.specs.declared.decision.Decision.TheVariants as decision
+use Rattle.core_decisions.proofs.Forms.{denied_by, refused_by, decided_for}
 use Rattle.core_calls.proofs.OnBuckets.{delete_form, delete_plan, not_not}
 use Rattle.core_calls.proofs.buckets.delete_bucket.Goals as goal
 

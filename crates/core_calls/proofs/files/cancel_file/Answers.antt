@@ -10,8 +10,8 @@ use Rattle.b2_model.specs.AskLarge.{not_large}
 use Rattle.b2_model.specs.Plan.{id_of, writes}
 use Rattle.large_files.specs.Refusals.{large_fault}
 use Rattle.policy_rules.specs.Asked.{caller}
-use Rattle.core_calls.specs.declared.decision.Decision.TheVariants as decision
-use Rattle.core_calls.proofs.Forms.{denied_by, refused_by, decided_for}
+use Rattle.core_decisions.specs.declared.decision.Decision.TheVariants as decision
+use Rattle.core_decisions.proofs.Forms.{denied_by, refused_by, decided_for}
 use Rattle.core_calls.proofs.OnFiles.{cancel_form}
 use Rattle.core_calls.proofs.files.cancel_file.Goals as goal
 

@@ -7,7 +7,7 @@ use Rattle.b2_model.specs.Plan.{shows}
 use Rattle.b2_model.specs.Shown.{shown_file}
 use Rattle.new_versions.specs.Decided.{extent_len}
 use Rattle.policy_rules.specs.Asked.{caller}
-use Rattle.core_calls.proofs.Forms.{denied_by, shown_for}
+use Rattle.core_decisions.proofs.Forms.{denied_by, shown_for}
 use Rattle.core_calls.proofs.OnFiles.{info_form}
 use Rattle.core_calls.proofs.files.file_info.Goals as goal
 

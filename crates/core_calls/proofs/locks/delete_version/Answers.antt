@@ -10,7 +10,7 @@ use Rattle.b2_model.specs.Plan.{writes}
 use Rattle.b2_model.specs.Policy.{caller_of}
 use Rattle.b2_model.specs.Shown.{may, shown_name}
 use Rattle.policy_rules.specs.Asked.{caller}
-use Rattle.core_calls.proofs.Forms.{denied_by, refused_found, written_for}
+use Rattle.core_decisions.proofs.Forms.{denied_by, refused_found, written_for}
 use Rattle.core_calls.proofs.OnFiles.{delete_form, kept_by}
 use Rattle.core_calls.proofs.locks.delete_version.Goals as goal
 

@@ -9,7 +9,7 @@ use Rattle.b2_model.specs.Checks.{first_fault}
 use Rattle.b2_model.specs.Plan.{writes}
 use Rattle.b2_model.specs.Shown.{shown_name}
 use Rattle.policy_rules.specs.Asked.{caller}
-use Rattle.core_calls.proofs.Forms.{denied_by, refused_found, written_for}
+use Rattle.core_decisions.proofs.Forms.{denied_by, refused_found, written_for}
 use Rattle.core_calls.proofs.OnFiles.{hold_form, hold_rules}
 use Rattle.core_calls.proofs.locks.update_hold.Goals as goal
 

@@ -15,10 +15,10 @@ use Rattle.b2_model.specs.Plan.{Plan, or_absent, shows, writes}
 use Rattle.b2_model.specs.Ask.{plan_of, refusals_of}
 use Rattle.core_policy.specs.Rules.{rules_on, standing}
 use Rattle.core_policy.proofs.Order.{by_first, by_next}
-use Rattle.core_calls.specs.declared.decision.Decision.{Decision}
-use Rattle.core_calls.specs.declared.decision.Decision.TheVariants as decision
-use Rattle.core_calls.specs.Decided.{Copies, IsDecision, at_extents}
-use Rattle.core_calls.proofs.Asked.{refused_is, shown_is, written_is}
+use Rattle.core_decisions.specs.declared.decision.Decision.{Decision}
+use Rattle.core_decisions.specs.declared.decision.Decision.TheVariants as decision
+use Rattle.core_decisions.specs.Decided.{Copies, IsDecision, at_extents}
+use Rattle.core_decisions.proofs.Asked.{refused_is, shown_is, written_is}
 
 -- what a call looks up, and what it comes to for what stands there
 pub record Form (M : State Extent) (t : ℕ) (token : Option (List ℕ)) (c : Call) (X : Type 0) : Type 0 where

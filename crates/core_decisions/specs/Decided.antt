@@ -7,8 +7,8 @@ use Rattle.b2_model.specs.State.{State, Pieces}
 use Rattle.b2_model.specs.Changes.{after_record}
 use Rattle.b2_model.specs.Ask.{Outcome, ask, at_moment}
 use Rattle.new_versions.specs.Decided.{extent_len}
-use Rattle.core_calls.specs.declared.decision.Decision.{Decision}
-use Rattle.core_calls.specs.declared.decision.Decision.TheVariants as decision
+use Rattle.core_decisions.specs.declared.decision.Decision.{Decision}
+use Rattle.core_decisions.specs.declared.decision.Decision.TheVariants as decision
 
 -- contents at extents, of which copies are made so
 abbrev pub Copies : Type 0

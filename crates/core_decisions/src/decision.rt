@@ -3,7 +3,7 @@
 ghost use Rattle.std.specs.Prelude.{◌≡◌};
 ghost use Rattle.b2_types.specs.declared.answer.AnswerOf.TheVariants as answer;
 ghost use Rattle.b2_types.specs.Fault.{plain};
-ghost use Rattle.core_calls.specs.declared.decision.Decision.TheVariants as decision;
+ghost use Rattle.core_decisions.specs.declared.decision.Decision.TheVariants as decision;
 
 use b2_types::{Answer, AnswerOf, Fault, Record};
 use rule_table::FaultKind;
@@ -18,14 +18,14 @@ pub enum Decision {
 }
 
 /// A refusal.
-pub(crate) fn refusal(fault: Fault) -> Decision
+pub fn refusal(fault: Fault) -> Decision
     ensures { result ≡ decision.Reply (answer.Refused fault) }
 {
     Decision::Reply(AnswerOf::Refused(fault))
 }
 
 /// A refusal of a kind that says all.
-pub(crate) fn plain_refusal(kind: FaultKind) -> Decision
+pub fn plain_refusal(kind: FaultKind) -> Decision
     ensures { result ≡ decision.Reply (answer.Refused (plain kind)) }
 {
     refusal(Fault::plain(kind))

@@ -11,8 +11,8 @@ use Rattle.b2_model.specs.State.{State}
 use Rattle.b2_model.specs.Plan.{shows, writes}
 use Rattle.b2_model.specs.Changes.{after_record}
 use Rattle.b2_model.specs.Ask.{at_moment, outcome_of, outcome_or_refusal, plan_of, refusals_of}
-use Rattle.core_calls.specs.declared.decision.Decision.TheVariants as decision
-use Rattle.core_calls.specs.Decided.{Copies, IsDecision, at_extents}
+use Rattle.core_decisions.specs.declared.decision.Decision.TheVariants as decision
+use Rattle.core_decisions.specs.Decided.{Copies, IsDecision, at_extents}
 
 -- the fault of the first refusal, for all that a plan can be
 abbrev Refuses : State Extent → ℕ → Option (List ℕ) → Call → Option Fault → Type 0
