@@ -1,2 +1,3 @@
 pub mod OnBuckets
 pub mod OnFiles
+pub mod OnBad

@@ -4,4 +4,4 @@ pub mod SameNumber
 pub mod Places
 pub mod ChangedVersion
 pub mod PassSteps
-pub mod Uploads
+pub mod UnderWay

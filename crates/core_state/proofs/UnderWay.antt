@@ -1,10 +1,11 @@
 -- The state when an upload begins, ends or is lost.
 use Rattle.std.proofs.Common.{◌≡◌, ℕ, ◌≤◌, ◌<◌, ◌==◌, Bool, true, false, not, cond, List, [], ◌∷◌, All, Option, Some, None, IsSome, find, filter, map, bytes_eq, option_map, subst, sym, ap, ◌∙◌, refl, arith}
 use Rattle.std.specs.Option.{is_some}
-use Rattle.std.specs.List.{AllPairs}
+use Rattle.std.specs.List.{AllPairs, list_any}
 use Rattle.std.proofs.lemmas.Bool.{false≢true}
 use Rattle.std.proofs.lemmas.Option.{none-some}
 use Rattle.std.proofs.lemmas.List.Elements.{All-cons, All-head, All-tail}
+use Rattle.std.proofs.lemmas.Slice.Eq.{bytes_eq-Decides}
 use Rattle.b2_base.specs.declared.extent.Extent.{Extent}
 use Rattle.b2_base.specs.declared.numbers.TheConstants.{LAST_VERSION}
 use Rattle.b2_base.specs.declared.settings.Settings.{Settings}
@@ -18,13 +19,13 @@ use Rattle.b2_model.specs.State.{State}
 use Rattle.b2_model.specs.UploadSteps.{begin_as, begin_refusals, flight_of, new_flight, without_flight}
 use Rattle.sound_states.specs.Sound.{IsSound}
 use Rattle.sound_states.proofs.Ascending.{all_from_both, pairs_head, pairs_tail}
-use Rattle.sound_states.proofs.Found.{found_has, found_passes, same_found}
+use Rattle.sound_states.proofs.Found.{found_has, found_passes, none_of_all, same_found}
 use Rattle.sound_states.proofs.Tests.{equal_numbers, not_equal, text_back}
 use Rattle.sound_states.proofs.Tokens.{same_text}
-use Rattle.sound_steps.proofs.Begun.{Begins, begins_well}
+use Rattle.sound_steps.proofs.Begun.{begins_well}
 use Rattle.sound_steps.proofs.Outcomes.{begin_sound, landed}
 use Rattle.auth_grants.specs.Tokens.{AreOnToken, Tokens, flight_at, flight_on, grants_of, held_in, held_of, tokens_of, with_flight}
-use Rattle.auth_grants.proofs.Uploads.{begins, ends}
+use Rattle.auth_grants.proofs.Uploads.{begins, ends, is_busy}
 use Rattle.core_state.specs.declared.parts.Parts.{Parts}
 use Rattle.core_state.specs.Uploads.{left_by}
 use Rattle.core_state.specs.View.{IsWhole, state_of}
@@ -52,23 +53,6 @@ with_flights p q t flights T whole sound tokens is =
       whole = record {
         sound = subst IsSound (sym state) sound;
         tokens = ap (λ (x : Parts). x.tokens) is ∙ tokens ∙ ap tokens_of (sym state);
-        last = subst (λ (s : Settings). s.last_version ≤ LAST_VERSION) (sym (ap (λ (x : Parts). x.settings) is)) whole.last;
-      };
-      state = state;
-    }
-
--- ---- moments
-
-pub at_later : (p q : Parts) (t : ℕ) → IsWhole p → p.kept ≤ t → q ≡ record p { now = t } → WholeAs q (record (state_of p) { now = t })
-at_later p q t whole later is =
-    let M = state_of p in
-    let N : State Extent = record M { now = t } in
-    let state : state_of q ≡ N = ap state_of is in
-    let sound = whole.sound in
-    record {
-      whole = record {
-        sound = subst IsSound (sym state) (record { buckets = sound.buckets; versions = sound.versions; keys = sound.keys; tokens = sound.tokens; flights = sound.flights; moments = later });
-        tokens = ap (λ (x : Parts). x.tokens) is ∙ whole.tokens ∙ ap tokens_of (sym state);
         last = subst (λ (s : Settings). s.last_version ≤ LAST_VERSION) (sym (ap (λ (x : Parts). x.settings) is)) whole.last;
       };
       state = state;
@@ -103,12 +87,29 @@ token_stands M t text u passes =
     let same : begun.text ≡ text = sym (same_found text begun.text begun.is) in
     subst (λ x. IsSome (grant_at M x)) same (ap is_some begun.there)
 
-pub is_held : (p : Parts) (t : ℕ) (text : List ℕ) (u : UploadCall) → IsWhole p → first_fault (begin_refusals (state_of p) t (Some text) u) ≡ None → IsSome (held_in p.tokens.held text)
-is_held p t text u whole passes =
-    let M = state_of p in
-    subst (λ (T : Tokens). IsSome (held_in T.held text)) (sym whole.tokens) (some_held M text M.grants (token_stands M t text u passes))
+no_some : (o : Option ℕ) → is_some o ≡ false → o ≡ None
+no_some None is = refl
+no_some (Some n) is = absurd (false≢true (sym is))
 
-pub on_its_way : (p q : Parts) (t conn : ℕ) (text : List ℕ) (u : UploadCall) (f : Flight) (T : Tokens) → IsWhole p → p.kept ≤ t → flight_of (state_of p) conn ≡ None
+pub is_untaken : (p : Parts) (M : State Extent) (t : ℕ) (text : List ℕ) (u : UploadCall) → state_of p ≡ M → IsWhole p → first_fault (begin_refusals M t (Some text) u) ≡ None → flight_at p.tokens text ≡ None
+is_untaken p M t text u view whole passes =
+    let N = state_of p in
+    let here : first_fault (begin_refusals N t (Some text) u) ≡ None = subst (λ (O : State Extent). first_fault (begin_refusals O t (Some text) u) ≡ None) (sym view) passes in
+    let begun = begins_well N t (Some text) u here in
+    let same : begun.text ≡ text = sym (same_found text begun.text begun.is) in
+    let free = subst (λ x. list_any (λ (f : Flight). bytes_eq f.token x) N.flights ≡ false) same (none_of_all (λ f. bytes_eq f.token begun.text) N.flights begun.alone) in
+    ap (λ (T : Tokens). flight_at T text) whole.tokens ∙ no_some (flight_at (tokens_of N) text) (sym (is_busy N text (token_stands N t text u here)) ∙ free)
+
+pub text_is : (M : State Extent) (text : List ℕ) (g : Grant) → Some g ≡ grant_at M text → g.text ≡ text
+text_is M text g is = (bytes_eq-Decides g.text text).0 (found_passes (λ h. bytes_eq h.text text) M.grants g (sym is))
+
+pub is_held : (p : Parts) (M : State Extent) (t : ℕ) (text : List ℕ) (u : UploadCall) → state_of p ≡ M → IsWhole p → first_fault (begin_refusals M t (Some text) u) ≡ None → IsSome (held_in p.tokens.held text)
+is_held p M t text u view whole passes =
+    let N = state_of p in
+    let here : first_fault (begin_refusals N t (Some text) u) ≡ None = subst (λ (O : State Extent). first_fault (begin_refusals O t (Some text) u) ≡ None) (sym view) passes in
+    subst (λ (T : Tokens). IsSome (held_in T.held text)) (sym whole.tokens) (some_held N text N.grants (token_stands N t text u here))
+
+on_its_way : (p q : Parts) (t conn : ℕ) (text : List ℕ) (u : UploadCall) (f : Flight) (T : Tokens) → IsWhole p → p.kept ≤ t → flight_of (state_of p) conn ≡ None
     → first_fault (begin_refusals (state_of p) t (Some text) u) ≡ None → f ≡ new_flight conn (Some text) u → T ≡ with_flight text (Some conn) p.tokens
     → q ≡ record p { now = t; tokens = T; flights = put_by (λ g. g.conn) f p.flights }
     → WholeAs q (moved (state_of p) t (put_by (λ g. g.conn) (new_flight conn (Some text) u) p.flights))
@@ -120,6 +121,14 @@ on_its_way p q t conn text u f T whole later free passes made taken is =
     with_flights p q t flights T whole sound
     (taken ∙ ap (with_flight text (Some conn)) whole.tokens ∙ begins M conn text u (is_free M t text u passes))
     (is ∙ ap (λ (g : Flight). record p { now = t; tokens = T; flights = put_by (λ h. h.conn) g p.flights }) made)
+
+pub occupied : (p q : Parts) (M : State Extent) (t conn : ℕ) (text : List ℕ) (u : UploadCall) (f : Flight) (T : Tokens) → state_of p ≡ M → IsWhole p → M.kept ≤ t → flight_of M conn ≡ None
+    → first_fault (begin_refusals M t (Some text) u) ≡ None → f ≡ new_flight conn (Some text) u → T ≡ with_flight text (Some conn) p.tokens
+    → q ≡ record p { now = t; tokens = T; flights = put_by (λ g. g.conn) f p.flights }
+    → WholeAs q (moved M t (put_by (λ g. g.conn) (new_flight conn (Some text) u) M.flights))
+occupied p q M t conn text u f T view whole later free passes made taken is =
+    subst (λ (N : State Extent). N.kept ≤ t → flight_of N conn ≡ None → first_fault (begin_refusals N t (Some text) u) ≡ None → WholeAs q (moved N t (put_by (λ g. g.conn) (new_flight conn (Some text) u) N.flights))) view
+    (λ l fr ps. on_its_way p q t conn text u f T whole l fr ps made taken is) later free passes
 
 -- ---- an upload that ends or is lost
 
@@ -163,9 +172,14 @@ left : (M : State Extent) (t conn : ℕ) (o : Option Flight) → IsSound M → f
 left M t conn None sound is = ap (λ (fs : List Flight). tokens_of (moved M t fs)) (sym (none_gone conn M.flights is))
 left M t conn (Some f) sound is = ends M t conn f.token (on_token conn M.flights f sound.flights.order sound.flights.apart is)
 
-pub landed_as : (p q : Parts) (t conn : ℕ) (o : Option Flight) (T : Tokens) → IsWhole p → p.kept ≤ t → o ≡ flight_of (state_of p) conn → T ≡ left_by o p.tokens
+landed_as : (p q : Parts) (t conn : ℕ) (o : Option Flight) (T : Tokens) → IsWhole p → p.kept ≤ t → o ≡ flight_of (state_of p) conn → T ≡ left_by o p.tokens
     → q ≡ record p { now = t; tokens = T; flights = filter (λ f. not (f.conn == conn)) p.flights } → WholeAs q (without_flight (state_of p) t conn)
 landed_as p q t conn o T whole later found gone is =
     let M = state_of p in
     with_flights p q t (filter (λ f. not (f.conn == conn)) p.flights) T whole (landed M t conn later whole.sound)
     (gone ∙ ap (left_by o) whole.tokens ∙ left M t conn o whole.sound (sym found)) is
+
+pub vacated : (p q : Parts) (M : State Extent) (t conn : ℕ) (o : Option Flight) (T : Tokens) → state_of p ≡ M → IsWhole p → M.kept ≤ t → o ≡ find (λ f. f.conn == conn) p.flights → T ≡ left_by o p.tokens
+    → q ≡ record p { now = t; tokens = T; flights = filter (λ f. not (f.conn == conn)) p.flights } → WholeAs q (without_flight M t conn)
+vacated p q M t conn o T view whole later found gone is =
+    subst (λ (N : State Extent). N.kept ≤ t → WholeAs q (without_flight N t conn)) view (λ l. landed_as p q t conn o T whole l found gone is) later
