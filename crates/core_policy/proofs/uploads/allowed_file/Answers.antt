@@ -9,7 +9,7 @@ use Rattle.b2_model.specs.UploadSteps.{fits}
 use Rattle.new_versions.specs.Decided.{refused}
 use Rattle.policy_rules.specs.Asked.{caller, judged}
 use Rattle.core_policy.specs.Rules.{standing}
-use Rattle.core_policy.proofs.Order.{by_front, by_third}
+use Rattle.core_policy.proofs.Order.{by_first, by_front, by_next, by_third}
 use Rattle.core_policy.proofs.uploads.allowed_file.Goals as goal
 
 pub returns-in_err-may_upload-clause-rules : goal.returns-in_err-may_upload-clause-rules
@@ -31,3 +31,13 @@ returns-in_err-may_name-clause-rules c =
     ap (refused plain) (p.1 ∙ ap Err p.2) ∙ c.in_err-may_name.ensures
     ∙ by_third (token_rules c.args.t j.row.tokens (fits c.args.target) who ++ call_rules M j who) (standing kinds.NoFile (version_at M c.args.bucket c.args.file)) (name_rule M j who)
     c.in_ok-may_upload.ensures (ap (λ o. first_fault (standing kinds.NoFile o)) (ap option_copied (sym c.in-Some.is) ∙ c.version.ensures))
+
+pub returns-in_default-clause-rules : goal.returns-in_default-clause-rules
+returns-in_default-clause-rules c =
+    let who = caller c.args.asker.now in
+    let j = judged c.args.asked.now in
+    let M = c.args.core.now in
+    let front = token_rules c.args.t j.row.tokens (fits c.args.target) who ++ call_rules M j who in
+    let exists = standing kinds.NoFile (version_at M c.args.bucket c.args.file) in
+    by_first (front ++ exists) (name_rule M j who) (plain kinds.NoFile)
+    (ap (λ o. first_fault (standing kinds.NoFile o)) c.in_default.ensures ∙ by_next front exists c.in_ok-may_upload.ensures)
