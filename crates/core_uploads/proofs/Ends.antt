@@ -1,12 +1,14 @@
 -- The end of an upload is decided by the first of its refusals, or by its plan.
-use Rattle.std.proofs.Common.{◌≡◌, ℕ, List, [], ◌++◌, Option, Some, None, refl, sym, ap, subst, ◌∙◌}
+use Rattle.std.proofs.Common.{◌≡◌, ℕ, List, [], ◌++◌, ◌==◌, Option, Some, None, refl, sym, ap, subst, ◌∙◌}
 use Rattle.b2_base.specs.declared.extent.Extent.{Extent}
 use Rattle.rule_table.specs.declared.fault.FaultKind.{FaultKind}
 use Rattle.rule_table.specs.declared.fault.FaultKind.TheVariants.{NoBucket, NoFile}
 use Rattle.b2_types.specs.declared.answer.AnswerOf.TheVariants as answer
 use Rattle.b2_types.specs.declared.bucket.Bucket.{Bucket}
+use Rattle.b2_types.specs.declared.fault.BadCall.{BadCall}
 use Rattle.b2_types.specs.declared.fault.Fault.{Fault}
 use Rattle.b2_types.specs.declared.key.Flight.{Flight}
+use Rattle.b2_types.specs.declared.record.ChangeOf.{ChangeOf}
 use Rattle.b2_types.specs.declared.record.RecordOf.{RecordOf}
 use Rattle.b2_types.specs.declared.shown.Shown.{Shown}
 use Rattle.b2_types.specs.declared.upload.FileUpload.{FileUpload}
@@ -22,11 +24,14 @@ use Rattle.b2_model.specs.Plan.{Plan, or_absent, writes}
 use Rattle.b2_model.specs.Policy.{Caller, caller_of}
 use Rattle.b2_model.specs.Rows.{version_at}
 use Rattle.b2_model.specs.State.{State, bucket_at}
-use Rattle.b2_model.specs.UploadSteps.{end_plan, file_end, part_end, upload_rules, without_flight}
+use Rattle.b2_model.specs.UploadSteps.{end_plan, file_end, flight_of, part_end, upload_rules, without_flight}
 use Rattle.machine_laws.specs.Rules.{end_refusals}
+use Rattle.sound_states.specs.Sound.{IsFor, IsSound, IsUnderWay}
+use Rattle.sound_states.proofs.Found.{found_has}
 use Rattle.new_versions.specs.Decided.{extent_len}
 use Rattle.core_policy.specs.Rules.{standing}
 use Rattle.core_policy.proofs.Order.{by_first, by_next}
+use Rattle.core_decisions.proofs.Forms.{some_is}
 use Rattle.core_decisions.specs.declared.decision.Decision.{Decision}
 use Rattle.core_decisions.specs.declared.decision.Decision.TheVariants as decision
 use Rattle.core_uploads.specs.Uploads.{IsEnd}
@@ -87,12 +92,13 @@ module _ {X : Type 0} (M : State Extent) (t : ℕ) (f : Flight) (body : Body Ext
       (refused_is M t f body fault (ap first_fault rules_are ∙ sym (by_next policy_on own_of passes) ∙ sym (is ∙ ap (λ o. first_fault (or_absent form.absent form.plan o).own) (sym found))))
 
   -- its record is written
-  pub written : (x : X) (r : RecordOf Extent) (own : List Check) (shown : Shown) → None ≡ first_fault policy_on → form.thing ≡ Some x → None ≡ first_fault (form.plan x).own
-      → form.plan x ≡ writes own r.change shown → r.at ≡ t → IsEnd M t f body (decision.Write r (answer.Json shown))
-  written x r own shown passes found none plan at =
+  pub written : (x : X) (r : RecordOf Extent) (own : List Check) (change : ChangeOf Extent) (shown : Shown) → None ≡ first_fault policy_on → form.thing ≡ Some x → None ≡ first_fault (form.plan x).own
+      → form.plan x ≡ writes own change shown → Some r.change ≡ (form.plan x).change → r.at ≡ t → IsEnd M t f body (decision.Write r (answer.Json shown))
+  written x r own change shown passes found none plan is at =
+      let same = some_is r.change change (is ∙ ap (λ (p : Plan Extent). p.change) plan) in
       written_is M t f body r own shown
       (ap first_fault rules_are ∙ sym (by_next policy_on own_of passes) ∙ sym (none ∙ ap (λ o. first_fault (or_absent form.absent form.plan o).own) (sym found)))
-      (form.is ∙ ap (or_absent form.absent form.plan) found ∙ plan) at
+      (form.is ∙ ap (or_absent form.absent form.plan) found ∙ plan ∙ ap (λ ch. writes own ch shown) (sym same)) at
 
 -- ---- the two kinds
 
@@ -123,3 +129,9 @@ part_form M t f body u = record {
 -- of a flight with this upload
 pub of_upload : (M : State Extent) (t : ℕ) (f : Flight) (body : Body Extent) (u : UploadCall) (d : Decision) → f.upload ≡ u → IsEnd M t (with_upload f u) body d → IsEnd M t f body d
 of_upload M t f body u d is end = subst (λ v. IsEnd M t (with_upload f v) body d) (sym is) end
+
+-- no upload that is amiss is under way
+pub never_bad : (M : State Extent) (conn : ℕ) (f : Flight) (c : BadCall) → IsSound M → Some f ≡ flight_of M conn → f.upload ≡ upload.Bad c → ⊥
+never_bad M conn f c sound is bad =
+    let under_way = (found_has (λ g. g.conn == conn) (IsUnderWay M.grants) M.flights f sound.flights.under_way (sym is)).1 in
+    subst (λ u. IsFor u under_way.token) bad under_way.purpose

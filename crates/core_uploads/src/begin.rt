@@ -28,12 +28,7 @@ fn is_busy(core: &Core, token: Option<&[u8]>) -> bool
 }
 
 // The first rule that refuses an upload of a file.
-fn file_fault(
-    core: &Core,
-    t: Moment,
-    token: Option<&[u8]>,
-    upload: &FileUpload,
-) -> Option<Fault>
+fn file_fault(core: &Core, t: Moment, token: Option<&[u8]>, upload: &FileUpload) -> Option<Fault>
     ensures { result ≡ first_fault
         (begin_refusals core.now t (option_copied token.entry) (uploads.File upload.now)) }
 {
@@ -52,12 +47,7 @@ fn file_fault(
 }
 
 // The first rule that refuses an upload of a part.
-fn part_fault(
-    core: &Core,
-    t: Moment,
-    token: Option<&[u8]>,
-    upload: &PartUpload,
-) -> Option<Fault>
+fn part_fault(core: &Core, t: Moment, token: Option<&[u8]>, upload: &PartUpload) -> Option<Fault>
     ensures { result ≡ first_fault
         (begin_refusals core.now t (option_copied token.entry) (uploads.Part upload.now)) }
 {
@@ -100,7 +90,7 @@ fn begun_or_refused(
     requires later { core.kept ≤ t }
     requires free { flight_of core conn ≡ None }
     requires first { fault ≡ first_fault
-        (begin_refusals core t (option_copied token.entry) upload) }
+        (begin_refusals core t (option_copied token) upload) }
     ensures { IfOk result
         (λ r. begun r.0 r.1 ≡ begin core t conn (option_copied token.entry) upload) }
 {

@@ -12,7 +12,9 @@ ghost use Rattle.new_versions.specs.Decided.{extent_len};
 ghost use Rattle.core_uploads.specs.Uploads.{version_in};
 
 use b2_base::{Extent, List, Memory, Moment, Settings, Text};
-use b2_types::{ChangeOf, Key, Mark, NewVersion, Record, Retention, RowKind, ShownDigest, ShownFile};
+use b2_types::{
+    ChangeOf, Key, Mark, NewVersion, Record, Retention, RowKind, ShownDigest, ShownFile,
+};
 use rule_table::Cap;
 use shown_values::may_read;
 use std::alloc::Global;
@@ -107,7 +109,9 @@ pub(crate) fn show_made(
 {
     match &record.change {
         ChangeOf::Upload(new, content, mark, digest) => {
-            show_new(alloc, settings, key, record.at, new, *content, *mark, *digest)
+            show_new(
+                alloc, settings, key, record.at, new, *content, *mark, *digest,
+            )
         }
         _ => unreachable!(),
     }
