@@ -44,12 +44,7 @@ fn is_public(core: &Core, call: &BadCall) -> bool
 
 // The first rule of the token that refuses the call; of a download in a public bucket none is
 // judged.
-fn may_use(
-    core: &Core,
-    t: Moment,
-    token: Option<&[u8]>,
-    call: &BadCall,
-) -> Result<(), FaultKind>
+fn may_use(core: &Core, t: Moment, token: Option<&[u8]>, call: &BadCall) -> Result<(), FaultKind>
     ensures { refused plain result ≡ first_fault
         (if is_open core.now (calls.Bad call.now) then []
         else token_rules t (need call.now.name).tokens (λ g. true)
