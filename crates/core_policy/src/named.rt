@@ -3,7 +3,6 @@
 ghost use Rattle.std.specs.Prelude.{◌≡◌, [], Some, IfOk};
 ghost use Rattle.std.specs.Option.{option_copied};
 ghost use Rattle.rule_table.specs.declared.fault.FaultKind.TheVariants as kinds;
-ghost use Rattle.rule_table.specs.declared.call.CallName.TheVariants as call_names;
 ghost use Rattle.b2_types.specs.Fault.{plain};
 ghost use Rattle.b2_types.specs.declared.call.Call.TheVariants as calls;
 ghost use Rattle.b2_types.specs.Naming.{fields_of, in_bucket, on_account, on_file, on_name, with_prefix};
@@ -220,14 +219,14 @@ pub fn list_for(
     core: &Core,
     asker: &Asker<'_>,
     t: Moment,
+    name: CallName,
     call: &ListBuckets,
 ) -> Result<(), FaultKind>
     ensures { refused plain result ≡ first_fault (rules_on core.now t
-        (judged_on call_names.ListBuckets [] (fields_of (calls.ListBuckets call.now)))
-        (caller asker.now) []) }
+        (judged_on name [] (fields_of (calls.ListBuckets call.now))) (caller asker.now) []) }
 {
     let asked = Asked {
-        need: need_of(CallName::ListBuckets),
+        need: need_of(name),
         more: &[],
         fields: filter_fields(call),
     };
