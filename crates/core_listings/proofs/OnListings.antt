@@ -5,7 +5,10 @@ use Rattle.rule_table.specs.declared.fault.FaultKind.TheVariants.{NoBucket, NoFi
 use Rattle.b2_types.specs.declared.kinds.Action.{Action}
 use Rattle.b2_types.specs.declared.kinds.Action.TheVariants as action
 use Rattle.b2_types.specs.declared.key.Key.{Key}
+use Rattle.b2_types.specs.declared.bucket.Bucket.{Bucket}
 use Rattle.b2_types.specs.declared.call.ListBuckets.{ListBuckets}
+use Rattle.b2_types.specs.declared.call.ListFiles.{ListFiles}
+use Rattle.b2_types.specs.declared.call.ListUnfinished.{ListUnfinished}
 use Rattle.b2_types.specs.declared.call.ListParts.{ListParts}
 use Rattle.b2_types.specs.declared.call.Call.TheVariants as call
 use Rattle.b2_types.specs.declared.version.PartOf.{PartOf}
@@ -14,17 +17,19 @@ use Rattle.b2_types.specs.declared.shown.Shown.{Shown}
 use Rattle.b2_types.specs.declared.shown.Shown.TheVariants as shown
 use Rattle.b2_model.specs.AskBuckets.{list_buckets}
 use Rattle.b2_model.specs.AskLarge.{not_large}
-use Rattle.b2_model.specs.Pages.{Page, parts_page}
+use Rattle.b2_model.specs.AskListings.{listing_of}
+use Rattle.b2_model.specs.Pages.{Page, names_page, parts_page, unfinished_page, versions_page}
 use Rattle.b2_model.specs.Plan.{Plan, shows}
 use Rattle.b2_model.specs.Policy.{caller_of}
 use Rattle.b2_model.specs.Rows.{version_at}
 use Rattle.b2_model.specs.Shown.{shown_part}
-use Rattle.b2_model.specs.State.{State}
+use Rattle.b2_model.specs.State.{State, bucket_at}
 use Rattle.sound_states.specs.Sound.{Holds, IsAscending, IsSound}
 use Rattle.sound_states.proofs.Found.{found_has}
 use Rattle.sound_states.proofs.Ascending.{ascends_nil}
 use Rattle.new_versions.specs.Decided.{extent_len}
 use Rattle.core_decisions.proofs.Forms.{Form}
+use Rattle.core_listings.specs.Rows.{names_shown, starts_shown, versions_shown}
 
 -- nothing is looked up
 abbrev pub buckets_form : (M : State Extent) (t : ℕ) (token : Option (List ℕ)) (c : ListBuckets) → Form M t token (call.ListBuckets c) (Unit {0})
@@ -33,6 +38,42 @@ buckets_form M t token c = record {
   thing = Some tt;
   plan = λ copy words _. list_buckets M (caller_of M token).key c;
   quiet = λ copy words _. refl;
+  refusals = λ copy words. refl;
+  is = λ copy words. refl;
+}
+
+-- ---- files
+
+abbrev pub versions_form : (M : State Extent) (t : ℕ) (token : Option (List ℕ)) (c : ListFiles) → Form M t token (call.ListFileVersions c) Bucket
+versions_form M t token c = record {
+  absent = NoBucket;
+  thing = bucket_at M c.bucket;
+  plan = λ copy words b. shows [] (versions_shown M (caller_of M token).key b.num (versions_page M b.num (listing_of c)));
+  quiet = λ copy words b. refl;
+  refusals = λ copy words. refl;
+  is = λ copy words. refl;
+}
+
+abbrev pub names_form : (M : State Extent) (t : ℕ) (token : Option (List ℕ)) (c : ListFiles) → Form M t token (call.ListFileNames c) Bucket
+names_form M t token c = record {
+  absent = NoBucket;
+  thing = bucket_at M c.bucket;
+  plan = λ copy words b. shows [] (names_shown M (caller_of M token).key b.num (names_page M b.num (listing_of c)));
+  quiet = λ copy words b. refl;
+  refusals = λ copy words. refl;
+  is = λ copy words. refl;
+}
+
+-- the large files that the call asks for
+abbrev pub asked_page : State Extent → ListUnfinished → ℕ → Page (VersionOf Extent)
+asked_page M c bucket = unfinished_page M bucket (unwrap_or c.prefix []) (unwrap_or c.start 0) c.max
+
+abbrev pub starts_form : (M : State Extent) (t : ℕ) (token : Option (List ℕ)) (c : ListUnfinished) → Form M t token (call.ListUnfinishedLargeFiles c) Bucket
+starts_form M t token c = record {
+  absent = NoBucket;
+  thing = bucket_at M c.bucket;
+  plan = λ copy words b. shows [] (starts_shown M (caller_of M token).key (asked_page M c b.num));
+  quiet = λ copy words b. refl;
   refusals = λ copy words. refl;
   is = λ copy words. refl;
 }

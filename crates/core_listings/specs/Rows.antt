@@ -1,5 +1,5 @@
 -- What is asked for by the calls that list files, and what is shown of the rows of a page.
-use Rattle.std.specs.Prelude.{⊤, ℕ, [], Option, None, Some, IsSome, option_map, unwrap_or}
+use Rattle.std.specs.Prelude.{⊤, ℕ, [], Option, None, Some, IsSome, map, option_map, unwrap_or}
 use Rattle.b2_base.specs.declared.extent.Extent.{Extent}
 use Rattle.b2_types.specs.declared.key.Key.{Key}
 use Rattle.b2_types.specs.declared.call.ListFiles.{ListFiles}
@@ -7,8 +7,14 @@ use Rattle.b2_types.specs.declared.call.ListUnfinished.{ListUnfinished}
 use Rattle.b2_types.specs.declared.shown.ShownFile.{ShownFile}
 use Rattle.b2_types.specs.declared.record.VersionId.{VersionId}
 use Rattle.b2_types.specs.declared.shown.NextRow.{NextRow}
+use Rattle.b2_types.specs.declared.shown.Shown.{Shown}
+use Rattle.b2_types.specs.declared.shown.Shown.TheVariants as shown
+use Rattle.b2_types.specs.declared.version.VersionOf.{VersionOf}
+use Rattle.b2_model.specs.AskListings.{next_row}
+use Rattle.b2_model.specs.Pages.{Page, Row, row_name}
+use Rattle.b2_model.specs.Plan.{id_of}
 use Rattle.b2_model.specs.Rows.{version_at}
-use Rattle.b2_model.specs.Shown.{shown_file, shown_folder}
+use Rattle.b2_model.specs.Shown.{shown_file, shown_folder, shown_row}
 use Rattle.b2_model.specs.State.{State}
 use Rattle.new_versions.specs.Decided.{extent_len}
 use Rattle.listing_pages.specs.declared.ask.Ask.{Ask}
@@ -54,3 +60,14 @@ id_at bucket (Folder name) = None
 abbrev pub next_at : ℕ → PageRow → NextRow
 next_at bucket (File name num) = record { name = name; version = id_at bucket (File name num) }
 next_at bucket (Folder name) = record { name = name; version = None }
+
+-- ---- pages as they are shown
+
+abbrev pub versions_shown : State Extent → Option Key → ℕ → Page (Row Extent) → Shown
+versions_shown M key bucket page = shown.FileVersions (map (shown_row extent_len M.settings key bucket) page.rows) (option_map next_row page.next)
+
+abbrev pub names_shown : State Extent → Option Key → ℕ → Page (Row Extent) → Shown
+names_shown M key bucket page = shown.FileNames (map (shown_row extent_len M.settings key bucket) page.rows) (option_map row_name page.next)
+
+abbrev pub starts_shown : State Extent → Option Key → Page (VersionOf Extent) → Shown
+starts_shown M key page = shown.Unfinished (map (shown_file extent_len M.settings key) page.rows) (option_map id_of page.next)
