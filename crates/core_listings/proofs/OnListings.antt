@@ -1,10 +1,12 @@
 -- What listings come to.
-use Rattle.std.proofs.Common.{◌≡◌, ℕ, [], List, Option, Some, ◌∷◌, option_map, unwrap_or, map, refl, ap, sym, subst, ◌&&◌, ◌==◌}
+use Rattle.std.proofs.Common.{◌≡◌, ℕ, [], List, Option, Some, ◌∷◌, option_map, unwrap_or, map, refl, sym, subst, ◌&&◌, ◌==◌}
 use Rattle.b2_base.specs.declared.extent.Extent.{Extent}
 use Rattle.rule_table.specs.declared.fault.FaultKind.TheVariants.{NoBucket, NoFile}
+use Rattle.rule_table.specs.declared.call.CallName.{CallName}
+use Rattle.b2_types.specs.declared.fault.Fault.{Fault}
+use Rattle.b2_types.specs.Naming.{with_prefix}
 use Rattle.b2_types.specs.declared.kinds.Action.{Action}
 use Rattle.b2_types.specs.declared.kinds.Action.TheVariants as action
-use Rattle.b2_types.specs.declared.key.Key.{Key}
 use Rattle.b2_types.specs.declared.bucket.Bucket.{Bucket}
 use Rattle.b2_types.specs.declared.call.ListBuckets.{ListBuckets}
 use Rattle.b2_types.specs.declared.call.ListFiles.{ListFiles}
@@ -15,12 +17,13 @@ use Rattle.b2_types.specs.declared.version.PartOf.{PartOf}
 use Rattle.b2_types.specs.declared.version.VersionOf.{VersionOf}
 use Rattle.b2_types.specs.declared.shown.Shown.{Shown}
 use Rattle.b2_types.specs.declared.shown.Shown.TheVariants as shown
+use Rattle.b2_model.specs.Checks.{first_fault}
 use Rattle.b2_model.specs.AskBuckets.{list_buckets}
 use Rattle.b2_model.specs.AskLarge.{not_large}
 use Rattle.b2_model.specs.AskListings.{listing_of}
 use Rattle.b2_model.specs.Pages.{Page, names_page, parts_page, unfinished_page, versions_page}
 use Rattle.b2_model.specs.Plan.{Plan, shows}
-use Rattle.b2_model.specs.Policy.{caller_of}
+use Rattle.b2_model.specs.Policy.{Caller, caller_of}
 use Rattle.b2_model.specs.Rows.{version_at}
 use Rattle.b2_model.specs.Shown.{shown_part}
 use Rattle.b2_model.specs.State.{State, bucket_at}
@@ -28,6 +31,7 @@ use Rattle.sound_states.specs.Sound.{Holds, IsAscending, IsSound}
 use Rattle.sound_states.proofs.Found.{found_has}
 use Rattle.sound_states.proofs.Ascending.{ascends_nil}
 use Rattle.new_versions.specs.Decided.{extent_len}
+use Rattle.core_policy.specs.Rules.{judged_on, rules_on, standing}
 use Rattle.core_decisions.proofs.Forms.{Form}
 use Rattle.core_listings.specs.Rows.{names_shown, starts_shown, versions_shown}
 
@@ -77,6 +81,11 @@ starts_form M t token c = record {
   refusals = λ copy words. refl;
   is = λ copy words. refl;
 }
+
+-- what the policy says of names with a prefix
+abbrev pub prefix_fault : State Extent → ℕ → CallName → Caller → ℕ → Option (List ℕ) → Option Fault
+prefix_fault M t name who bucket prefix =
+    first_fault (rules_on M t (judged_on name [] (with_prefix bucket prefix)) who (standing NoBucket (bucket_at M bucket)))
 
 -- ---- parts
 
