@@ -2,13 +2,15 @@
 
 ghost use Rattle.std.specs.Prelude.{◌≡◌, Some};
 ghost use Rattle.std.specs.Option.{option_copied};
+ghost use Rattle.b2_types.specs.declared.call.Call.TheVariants as calls;
+ghost use Rattle.b2_types.specs.Naming.{fields_of};
 ghost use Rattle.b2_types.specs.Naming.{in_bucket, nothing, on_account, on_file, on_name, with_prefix};
 ghost use Rattle.policy_rules.specs.Asked.{named};
 
 use b2_base::{BucketNum, Text, VersionNum};
-use b2_types::VersionId;
+use b2_types::{ListBuckets, VersionId};
 use name_rules::FileName;
-use policy_rules::Fields;
+use policy_rules::{Fields, SomeBucket};
 
 // Nothing is named.
 fn no_fields<'a>() -> Fields<'a>
@@ -72,5 +74,18 @@ pub(crate) fn file_fields<'a>(bucket: BucketNum, file: VersionNum) -> Fields<'a>
 {
     let mut fields = no_fields();
     fields.file = Some(VersionId { bucket, num: file });
+    fields
+}
+
+/// Those of a listing of buckets: the bucket that its filters name.
+pub(crate) fn filter_fields<'a>(call: &'a ListBuckets) -> Fields<'a>
+    ensures { named result ≡ fields_of (calls.ListBuckets call.now) }
+{
+    let name = match &call.name {
+        Some(name) => Some(name.get().as_bytes()),
+        None => None,
+    };
+    let mut fields = account_fields(&call.account, None);
+    fields.some_bucket = Some(SomeBucket::Filter(call.bucket, name));
     fields
 }

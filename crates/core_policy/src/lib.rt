@@ -7,5 +7,7 @@ mod named;
 mod uploads;
 
 pub use judge::asker_of;
-pub use named::{account_bucket_for, account_for, bucket_for, file_for, name_for, prefix_for};
+pub use named::{
+    account_bucket_for, account_for, bucket_for, file_for, list_for, name_for, prefix_for,
+};
 pub use uploads::{file_upload_for, part_upload_for, token_for};

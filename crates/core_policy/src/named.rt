@@ -4,7 +4,8 @@ ghost use Rattle.std.specs.Prelude.{◌≡◌, [], Some, IfOk};
 ghost use Rattle.std.specs.Option.{option_copied};
 ghost use Rattle.rule_table.specs.declared.fault.FaultKind.TheVariants as kinds;
 ghost use Rattle.b2_types.specs.Fault.{plain};
-ghost use Rattle.b2_types.specs.Naming.{in_bucket, on_account, on_file, on_name, with_prefix};
+ghost use Rattle.b2_types.specs.declared.call.Call.TheVariants as calls;
+ghost use Rattle.b2_types.specs.Naming.{fields_of, in_bucket, on_account, on_file, on_name, with_prefix};
 ghost use Rattle.b2_model.specs.Checks.{first_fault};
 ghost use Rattle.b2_model.specs.Rows.{version_at};
 ghost use Rattle.b2_model.specs.State.{bucket_at};
@@ -12,10 +13,12 @@ ghost use Rattle.new_versions.specs.Decided.{refused};
 ghost use Rattle.policy_rules.specs.Asked.{caller, judged};
 ghost use Rattle.core_policy.specs.Rules.{judged_on, rules_on, standing};
 
-use crate::fields::{account_fields, bucket_fields, file_fields, name_fields, prefix_fields};
+use crate::fields::{
+    account_fields, bucket_fields, file_fields, filter_fields, name_fields, prefix_fields,
+};
 use crate::judge::{may_call, may_name};
 use b2_base::{BucketNum, Moment, Text, VersionNum};
-use b2_types::{Bucket, Version, need_of};
+use b2_types::{Bucket, ListBuckets, Version, need_of};
 use core_state::Core;
 use name_rules::FileName;
 use policy_rules::{Asked, Asker};
@@ -208,4 +211,24 @@ pub fn file_for<'a>(
         fields: file_fields(bucket, file),
     };
     allowed_file(core, asker, &asked, t, bucket, file)
+}
+
+/// Whether the buckets that pass these filters may be listed, or the first rule of the policy that
+/// refuses it. Nothing that is named has to stand.
+pub fn list_for(
+    core: &Core,
+    asker: &Asker<'_>,
+    t: Moment,
+    name: CallName,
+    call: &ListBuckets,
+) -> Result<(), FaultKind>
+    ensures { refused plain result ≡ first_fault (rules_on core.now t
+        (judged_on name [] (fields_of (calls.ListBuckets call.now))) (caller asker.now) []) }
+{
+    let asked = Asked {
+        need: need_of(name),
+        more: &[],
+        fields: filter_fields(call),
+    };
+    allowed(core, asker, &asked, t)
 }

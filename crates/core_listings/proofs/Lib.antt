@@ -1,0 +1,3 @@
+pub mod OnListings
+pub mod Standing
+pub mod ShownRows
