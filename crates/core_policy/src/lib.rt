@@ -6,4 +6,6 @@ mod judge;
 mod named;
 
 pub use judge::asker_of;
-pub use named::{account_bucket_for, account_for, bucket_for, file_for, name_for, prefix_for};
+pub use named::{
+    account_bucket_for, account_for, bucket_for, buckets_for, call_for, file_for, name_for, prefix_for,
+};

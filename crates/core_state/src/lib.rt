@@ -11,6 +11,7 @@ mod parts;
 mod pass_steps;
 mod state;
 mod taken;
+mod tokens;
 
 pub use large::contents_in;
 pub use state::Core;
