@@ -1,0 +1,4 @@
+pub mod Made
+pub mod Given
+pub mod Urls
+pub mod Account
