@@ -19,7 +19,7 @@ use Rattle.core_state.specs.GivenTokens.{GivesToken, HasGiven, HasNone, grant_of
 use Rattle.core_decisions.specs.Decided.{AreWords, ComesTo, Copies, IsAnswer, answering, at_extents}
 use Rattle.core_decisions.proofs.Drawn.{Ruled, comes_to, passed_first}
 use Rattle.core_decisions.proofs.Forms.{Form, own_of, policy_on, rules_are}
-use Rattle.core_keys.specs.Given.{IsGiving}
+use Rattle.core_keys.specs.Giving.{IsGiving}
 
 -- ---- the rules pass
 

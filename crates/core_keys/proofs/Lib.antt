@@ -1,3 +1,6 @@
 pub mod ByNumber
+pub mod KeyRules
+pub mod KeyPages
 pub mod Giving
 pub mod OnKeys
+pub mod Made

@@ -1,4 +1,4 @@
 pub mod Made
-pub mod Given
-pub mod Urls
-pub mod Account
+pub mod Giving
+pub mod ShownTokens
+pub mod Accounts

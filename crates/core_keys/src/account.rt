@@ -15,7 +15,7 @@ ghost use Rattle.new_versions.specs.Decided.{refused};
 ghost use Rattle.core_state.specs.GivenTokens.{MayHave};
 ghost use Rattle.core_decisions.specs.declared.decision.Decision.TheVariants as decision;
 ghost use Rattle.core_decisions.specs.Decided.{IsAnswer, IsDecision};
-ghost use Rattle.core_keys.specs.Account.{GivesAccount, rules_but_serial};
+ghost use Rattle.core_keys.specs.Accounts.{GivesAccount, rules_but_serial};
 
 use crate::given::{day_terms, no_serial, refused};
 use crate::lookup::{key_by, key_of_id};

@@ -7,7 +7,7 @@ ghost use Rattle.b2_types.specs.Fault.{plain};
 ghost use Rattle.b2_model.specs.Ask.{at_moment};
 ghost use Rattle.b2_model.specs.Plan.{key_num};
 ghost use Rattle.policy_rules.specs.Asked.{caller};
-ghost use Rattle.core_keys.specs.Given.{day_terms};
+ghost use Rattle.core_keys.specs.Giving.{day_terms};
 
 use auth_grants::Terms;
 use b2_base::{BucketNum, KeyNum, Moment, Text, VersionNum};

@@ -65,8 +65,8 @@ pub(crate) fn key_for<'a>(
     ensures found { IfOk result (λ k. key_of_id core.now id.now ≡ Some k.now) }
 {
     call_for(core, asker, t, CallName::DeleteKey)?;
-    match key_of_id(core, id.get().as_bytes()) {
-        Some(key) => Ok(key),
-        None => Err(FaultKind::NoKey),
-    }
+    let Some(key) = key_of_id(core, id.get().as_bytes()) else {
+        return Err(FaultKind::NoKey);
+    };
+    Ok(key)
 }

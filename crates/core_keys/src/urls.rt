@@ -10,8 +10,8 @@ ghost use Rattle.b2_model.specs.Kinds.{later};
 ghost use Rattle.core_state.specs.GivenTokens.{MayHave};
 ghost use Rattle.core_decisions.specs.declared.decision.Decision.TheVariants as decision;
 ghost use Rattle.core_decisions.specs.Decided.{IsAnswer, IsDecision};
-ghost use Rattle.core_keys.specs.Given.{IsGiving};
-ghost use Rattle.core_keys.specs.Urls.{shows_download, shows_part, shows_upload};
+ghost use Rattle.core_keys.specs.Giving.{IsGiving};
+ghost use Rattle.core_keys.specs.ShownTokens.{shows_download, shows_part, shows_upload};
 
 use crate::given::{day_terms, key_num, no_serial, refused};
 use auth_grants::Terms;

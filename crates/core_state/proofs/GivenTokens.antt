@@ -12,7 +12,6 @@ use Rattle.b2_base.specs.declared.settings.Settings.{Settings}
 use Rattle.b2_types.specs.declared.key.Flight.{Flight}
 use Rattle.b2_types.specs.declared.key.Grant.{Grant}
 use Rattle.b2_types.specs.declared.record.Numbers.{Numbers}
-use Rattle.b2_model.specs.Ask.{at_moment}
 use Rattle.b2_model.specs.LiveGrant.{token_of}
 use Rattle.b2_model.specs.Plan.{no_serial}
 use Rattle.b2_model.specs.State.{State}
@@ -66,14 +65,7 @@ whole_as p q N whole is sound tokens settings = record {
   state = is;
 }
 
--- at a later moment
-pub moved_on : (p q : Parts) (t : ℕ) → IsWhole p → p.now ≤ t → q ≡ record p { now = t } → WholeAs q (at_moment (state_of p) t)
-moved_on p q t whole later is =
-    let kept = whole.sound.moments in
-    whole_as p q (at_moment (state_of p) t) whole (ap state_of is) (moved (state_of p) t (omega (arith, kept, later)) whole.sound)
-    (ap (λ (x : Parts). x.tokens) is ∙ whole.tokens) (ap (λ (x : Parts). x.settings) is)
-
-held_on : Grant → Option ℕ → Held
+abbrev held_on : Grant → Option ℕ → Held
 held_on g conn = record { grant = g; flight = conn }
 
 -- with one more token

@@ -37,10 +37,10 @@ impl Core {
         let mut parts = self.parts;
         parts.now = t;
         let text = match parts.tokens.grant(alloc, parts.boot, terms, luck) {
-            Ok(text) => Some(text),
+            Ok(text) => text,
             Err(Or::Memory) => return Err(Memory),
-            Err(Or::Fault(SerialEnd)) => None,
+            Err(Or::Fault(SerialEnd)) => return Ok((Core { parts }, None)),
         };
-        Ok((Core { parts }, text))
+        Ok((Core { parts }, Some(text)))
     }
 }

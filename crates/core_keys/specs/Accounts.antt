@@ -12,7 +12,7 @@ use Rattle.b2_model.specs.Policy.{authorize_rules, key_by}
 use Rattle.b2_model.specs.Shown.{shown_account}
 use Rattle.b2_model.specs.State.{State}
 use Rattle.auth_grants.specs.declared.grants.Terms.{Terms}
-use Rattle.core_keys.specs.Given.{IsGiving}
+use Rattle.core_keys.specs.Giving.{IsGiving}
 
 -- the key's own rules, but for the want of a serial
 abbrev pub key_rules : ApiVersion → Option Key → List Check
