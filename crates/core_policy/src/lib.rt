@@ -7,5 +7,6 @@ mod named;
 
 pub use judge::asker_of;
 pub use named::{
-    account_bucket_for, account_for, bucket_for, buckets_for, call_for, file_for, name_for, prefix_for,
+    account_bucket_for, account_for, bucket_for, buckets_for, call_for, file_for, name_for,
+    prefix_for,
 };

@@ -14,7 +14,8 @@ ghost use Rattle.policy_rules.specs.Asked.{caller, judged};
 ghost use Rattle.core_policy.specs.Rules.{all_stand, judged_on, rules_on, standing};
 
 use crate::fields::{
-    account_fields, bucket_fields, buckets_fields, file_fields, name_fields, no_fields, prefix_fields,
+    account_fields, bucket_fields, buckets_fields, file_fields, name_fields, no_fields,
+    prefix_fields,
 };
 use crate::judge::{may_call, may_name};
 use b2_base::{BucketNum, Moment, Text, VersionNum};
@@ -214,12 +215,7 @@ pub fn file_for<'a>(
 }
 
 /// Whether a call that names nothing may be made, or the first rule of the policy that refuses it.
-pub fn call_for(
-    core: &Core,
-    asker: &Asker<'_>,
-    t: Moment,
-    name: CallName,
-) -> Result<(), FaultKind>
+pub fn call_for(core: &Core, asker: &Asker<'_>, t: Moment, name: CallName) -> Result<(), FaultKind>
     ensures { refused plain result ≡ first_fault (rules_on core.now t
         (judged_on name [] nothing) (caller asker.now) []) }
 {

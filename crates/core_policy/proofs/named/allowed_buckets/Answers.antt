@@ -1,4 +1,4 @@
-use Rattle.std.proofs.Common.{true, Err, ◌++◌, ◌∙◌, sym, ap}
+use Rattle.std.proofs.Common.{true, Err, [], ◌∷◌, ◌++◌, ◌∙◌, sym, ap}
 use Rattle.std.proofs.lemmas.Result.{err_from_is_err_and}
 use Rattle.rule_table.specs.declared.fault.FaultKind.TheVariants.{NoBucket}
 use Rattle.b2_types.specs.Fault.{plain}
