@@ -1,5 +1,6 @@
 -- A key is found by the number that its id tells.
-use Rattle.std.proofs.Common.{◌≡◌, ℕ, zero, suc, ◌+◌, ◌<◌, ◌≤◌, ◌^◌, ◌==◌, ◌&&◌, Bool, true, false, List, [], ◌∷◌, ◌++◌, All, Option, Some, None, find, bytes_eq, codes, length, slice_index_or, if◌then◌else◌, refl, sym, ap, subst, ◌∙◌, arith, length-append, append_cancel_left}
+use Rattle.std.proofs.Common.{◌≡◌, ℕ, zero, suc, ◌+◌, ◌<◌, ◌≤◌, ◌^◌, ◌==◌, ◌&&◌, Bool, true, false, List, [], ◌∷◌, ◌++◌, All, Option, Some, None, find, bytes_eq, codes, length, slice_index_or, if◌then◌else◌, refl, sym, ap, subst, ◌∙◌, arith, length-append}
+use Rattle.std.proofs.lemmas.List.{append_cancel_left}
 use Rattle.std.specs.List.{AllPairs}
 use Rattle.std.specs.Cmp.Lexicographic.{bytes_decides}
 use Rattle.std.proofs.lemmas.Bool.{false≢true}
@@ -13,7 +14,6 @@ use Rattle.b2_types.specs.declared.call.Credentials.{Credentials}
 use Rattle.b2_types.specs.declared.key.Key.{Key}
 use Rattle.b2_types.specs.KeyId.{key_id}
 use Rattle.b2_model.specs.AskKeys.{key_of_id}
-use Rattle.b2_model.specs.Plan.{number_end}
 use Rattle.b2_model.specs.Policy.{key_by}
 use Rattle.b2_model.specs.State.{State, key_at}
 use Rattle.sound_states.specs.Sound.{IsAscending, IsSound}
@@ -75,6 +75,9 @@ module _ {X : Type 0} where
 
 -- ---- keys
 
+abbrev pub has_secret : Credentials → Key → Bool
+has_secret c k = bytes_eq (sha256 c.secret) k.hash
+
 module _ (M : State Extent) (sound : IsSound M) where
   abbrev has_id : List ℕ → Key → Bool
   has_id id k = bytes_eq (key_id M.settings.account k.num) id
@@ -100,9 +103,6 @@ module _ (M : State Extent) (sound : IsSound M) where
   no_number id none = find_none (has_id id) M.keys (none_tells id none)
 
   -- ---- with the secret
-
-  abbrev pub has_secret : Credentials → Key → Bool
-  has_secret c k = bytes_eq (sha256 c.secret) k.hash
 
   one_number : (num : ℕ) → AllPairs (λ (x y : Key). (x.num == num) ≡ true → (y.num == num) ≡ false) M.keys
   one_number num = pairs_from (λ (x y : Key). x.num < y.num) (λ (x y : Key). (x.num == num) ≡ true → (y.num == num) ≡ false) M.keys

@@ -58,18 +58,18 @@ gives_for M t token c form who x terms shows own asks passes found none plan = g
 
 -- ---- what was given
 
+unknown : (M : State Extent) (t : ℕ) (token : Option (List ℕ)) (c : Call) (ahead told left : Option (List ℕ)) (made : List ℕ → Outcome Extent)
+    → ComesTo M t token c ahead told made → ComesTo M t token c None left made
+unfolding ComesTo
+unknown M t token c ahead told left made is = (is.0, is.1, tt, is.3)
+
 -- the words of which two were drawn
 drawn : (M : State Extent) (t : ℕ) (token : Option (List ℕ)) (c : Call) (ahead left : Option (List ℕ)) (first second : ℕ) (made : ℕ → ℕ → List ℕ → Outcome Extent) → GiveTwo ahead first second left
     → ((words : List ℕ) → ComesTo M t token c (Some words) (Some (drop 2 words)) (made (slice_index words 0) (slice_index words 1))) → ComesTo M t token c ahead left (made first second)
-drawn M t token c None left first second made two all = unknown M t token c left first second made (all (first ∷ second ∷ []))
-  where
-    unknown : (M : State Extent) (t : ℕ) (token : Option (List ℕ)) (c : Call) (left : Option (List ℕ)) (first second : ℕ) (made : ℕ → ℕ → List ℕ → Outcome Extent)
-        → ComesTo M t token c (Some (first ∷ second ∷ [])) (Some []) (made first second) → ComesTo M t token c None left (made first second)
-    unfolding ComesTo
-    unknown M t token c left first second made (words, rest, told, is) = (words, rest, tt, is)
+drawn M t token c None left first second made two all =
+    unknown M t token c (Some (first ∷ second ∷ [])) (Some []) left (made first second) (all (first ∷ second ∷ []))
 drawn M t token c (Some ahead) None first second made two all = absurd two
-drawn M t token c (Some ahead) (Some left) first second made (one, other, rest) all =
-    rw (one, other, rest) (all ahead)
+drawn M t token c (Some ahead) (Some left) first second made (one, other, rest) all = rw (one, other, rest) (all ahead)
 
 pub token_given : (M : State Extent) (t : ℕ) (token : Option (List ℕ)) (c : Call) (terms : Terms) (shows : List ℕ → Shown) (ahead left : Option (List ℕ)) (N : State Extent) (text : List ℕ) (shown : Shown)
     → IsGiving M t token c terms shows → HasGiven M t terms ahead left N text → shown ≡ shows text → IsAnswer M t token c ahead left N (answer.Json shown)

@@ -1,8 +1,8 @@
 -- The rules of a call on a key, of which the last says that there is such a key.
-use Rattle.std.proofs.Common.{◌≡◌, List, [], ◌++◌, Option, Some, None, refl, sym, ap, ◌∙◌}
+use Rattle.std.proofs.Common.{◌≡◌, List, [], ◌++◌, Option, Some, None, refl, ap, ◌∙◌}
 use Rattle.b2_types.specs.declared.fault.Fault.{Fault}
 use Rattle.b2_model.specs.Checks.{Check, first_fault, or_else}
-use Rattle.core_policy.proofs.Order.{by_first, by_front, by_next, then_next}
+use Rattle.core_policy.proofs.Order.{by_front, then_next}
 
 or_none : (o : Option Fault) → or_else o None ≡ o
 or_none None = refl
@@ -15,6 +15,3 @@ first_alone a z none =
 
 pub still_refused : (a b z : List Check) (f : Fault) → first_fault z ≡ None → Some f ≡ first_fault (a ++ [] ++ z) → Some f ≡ first_fault (a ++ b ++ z)
 still_refused a b z f none is = by_front a b z f (is ∙ first_alone a z none)
-
-pub last_refuses : (a b z : List Check) (f : Fault) → first_fault z ≡ None → None ≡ first_fault (a ++ [] ++ z) → Some f ≡ first_fault b → Some f ≡ first_fault (a ++ b ++ z)
-last_refuses a b z f none passes is = by_first (a ++ b) z f (is ∙ by_next a b (passes ∙ first_alone a z none))

@@ -22,8 +22,7 @@ use crate::lookup::{key_by, key_of_id};
 use auth_grants::Terms;
 use b2_base::{BucketNum, List, Memory, Moment, Text, VersionNum};
 use b2_types::{
-    Answer, AnswerOf, ApiVersion, Authorize, Fault, Key, Shown, ShownAccount,
-    ShownLimit, TokenKind,
+    Answer, AnswerOf, ApiVersion, Authorize, Fault, Key, Shown, ShownAccount, ShownLimit, TokenKind,
 };
 use core_state::Core;
 use outside_traits::Words;
@@ -72,12 +71,7 @@ fn account_key<'a>(core: &'a Core, t: Moment, call: &Authorize) -> Result<&'a Ke
 }
 
 // What the token is given for, or the first refusal.
-fn account_terms(
-    alloc: Global,
-    core: &Core,
-    t: Moment,
-    call: &Authorize,
-) -> Result<Terms, Fault>
+fn account_terms(alloc: Global, core: &Core, t: Moment, call: &Authorize) -> Result<Terms, Fault>
     ensures refused { IfErr result (λ f. (token : Opt (TheList ℕ)) → IsDecision core.now t token
         (calls.AuthorizeAccount call.now) (decision.Reply (answer.Refused f))) }
     ensures giving { IfOk result (GivesAccount core.now t call.now) }
@@ -94,11 +88,7 @@ fn account_terms(
 }
 
 // The buckets that a key is limited to.
-fn limits_of(
-    alloc: Global,
-    core: &Core,
-    buckets: &[BucketNum],
-) -> Result<List<ShownLimit>, Memory>
+fn limits_of(alloc: Global, core: &Core, buckets: &[BucketNum]) -> Result<List<ShownLimit>, Memory>
     ensures { IfOk result (λ limits. limits ≡ map (shown_limit core.now) buckets.now) }
 {
     let mut limits = Vec::new(alloc);

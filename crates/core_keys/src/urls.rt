@@ -120,7 +120,14 @@ fn part_terms(
         return Err(Fault::plain(FaultKind::NotLarge));
     }
     let key = key_num(&asker);
-    Ok(day_terms(alloc, t, TokenKind::PartUrl, key, version.bucket, version.num))
+    Ok(day_terms(
+        alloc,
+        t,
+        TokenKind::PartUrl,
+        key,
+        version.bucket,
+        version.num,
+    ))
 }
 
 // The URL for uploads of parts of a file.
