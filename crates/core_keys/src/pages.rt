@@ -34,8 +34,9 @@ fn number_told(id: &[u8]) -> u32
     if id.len() == 12 {
         return 0;
     }
+    let digits = digits_of(id);
     let mut number = 0u32;
-    for digit in digits_of(id) {
+    for digit in digits {
         number = number
             .saturating_mul(16)
             .saturating_add(digit_value(*digit));
