@@ -26,7 +26,7 @@ use Rattle.core_keys.specs.Made.{key_fault, written}
 use Rattle.core_keys.proofs.OnKeys.{create_rules}
 
 -- the refusal of a fault
-pub refusal_of : {T : Type 0} (P : KeyRefusal → Type 0) (error : Or KeyRefusal) (fault : Fault) → key_fault error ≡ Some fault → IfFault {T = T} (Err error) P → (r : KeyRefusal) × (plain (kind_of r) ≡ fault) × P r
+pub refusal_of : (P : KeyRefusal → Type 0) (error : Or KeyRefusal) (fault : Fault) → key_fault error ≡ Some fault → IfFault {T = NewKey} (Err error) P → (r : KeyRefusal) × (plain (kind_of r) ≡ fault) × P r
 refusal_of P or.Memory fault is told = absurd (none-some fault is)
 refusal_of P (or.Fault r) fault is told = (r, some_is (plain (kind_of r)) fault is, told)
 
