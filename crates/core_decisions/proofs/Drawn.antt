@@ -14,6 +14,7 @@ use Rattle.core_decisions.specs.declared.decision.Decision.{Decision}
 use Rattle.core_decisions.specs.declared.decision.Decision.TheVariants as decision
 use Rattle.core_decisions.specs.Decided.{AreWords, ComesTo, Copies, IsAnswer, IsDecision, IsDrawn, answering, at_extents, outcome}
 use Rattle.core_decisions.proofs.Asked.{refused_is}
+use Rattle.core_decisions.proofs.Forms.{Form, own_of, policy_on, rules_are as rules_on_form}
 
 pub comes_to : (M : State Extent) (t : ℕ) (token : Option (List ℕ)) (c : Call) (ahead left : Option (List ℕ)) (made : List ℕ → Outcome Extent) (words rest : List ℕ) → AreWords ahead left words rest
     → ((copy : Copies) → ask (at_extents copy) M t words token c ≡ made rest) → ComesTo M t token c ahead left made
@@ -61,3 +62,11 @@ pub passed_first : (M : State Extent) (t : ℕ) (token : Option (List ℕ)) (c :
     → None ≡ first_fault (r.first who) → first_fault (refusals_of (at_extents copy) M t words token c) ≡ first_fault (r.own copy words)
 passed_first M t token c r who copy words asks passes =
     ap first_fault (rules_are M t token c r who copy words asks) ∙ sym (by_next (r.first who) (r.own copy words) passes)
+
+-- where something is looked up
+abbrev pub as_ruled : {X : Type 0} (M : State Extent) (t : ℕ) (token : Option (List ℕ)) (c : Call) (form : Form M t token c X) → Ruled M t token c
+as_ruled M t token c form = record {
+  first = λ who. policy_on M t token c who form;
+  own = own_of M t token c form;
+  is = λ copy words. rules_on_form M t token c form (caller_of M token) copy words refl;
+}

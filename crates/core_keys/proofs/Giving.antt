@@ -17,8 +17,8 @@ use Rattle.auth_grants.specs.declared.grants.Terms.{Terms}
 use Rattle.core_policy.proofs.Order.{by_next}
 use Rattle.core_state.specs.GivenTokens.{GivesToken, HasGiven, HasNone, grant_of, with_token}
 use Rattle.core_decisions.specs.Decided.{AreWords, ComesTo, Copies, IsAnswer, answering, at_extents}
-use Rattle.core_decisions.proofs.Drawn.{Ruled, comes_to, passed_first}
-use Rattle.core_decisions.proofs.Forms.{Form, own_of, policy_on, rules_are}
+use Rattle.core_decisions.proofs.Drawn.{as_ruled, comes_to, passed_first}
+use Rattle.core_decisions.proofs.Forms.{Form, policy_on}
 use Rattle.core_keys.specs.Giving.{IsGiving}
 
 -- ---- the rules pass
@@ -39,13 +39,6 @@ gives_if M t token c terms shows own none made = λ copy words.
     )
 
 -- where something is looked up
-as_ruled : {X : Type 0} (M : State Extent) (t : ℕ) (token : Option (List ℕ)) (c : Call) (form : Form M t token c X) → Ruled M t token c
-as_ruled M t token c form = record {
-  first = λ who. policy_on M t token c who form;
-  own = own_of M t token c form;
-  is = λ copy words. rules_are M t token c form (caller_of M token) copy words refl;
-}
-
 pub gives_for : {X : Type 0} (M : State Extent) (t : ℕ) (token : Option (List ℕ)) (c : Call) (form : Form M t token c X) (who : Caller) (x : X) (terms : Terms) (shows : List ℕ → Shown) (own : List Check)
     → who ≡ caller_of M token → None ≡ first_fault (policy_on M t token c who form) → form.thing ≡ Some x → None ≡ first_fault own
     → ((copy : Copies) (words : List ℕ) → form.plan copy words x ≡ grants (own ++ no_serial M ∷ []) (grant_of (new_token M words) terms) (shows (new_token M words)))

@@ -4,3 +4,4 @@ pub mod KeyPages
 pub mod Giving
 pub mod OnKeys
 pub mod Made
+pub mod OnTokens
