@@ -1,7 +1,8 @@
 -- Calls that give a token, by their rules and by what was given.
-use Rattle.std.proofs.Common.{◌≡◌, ℕ, Bool, true, false, List, [], ◌∷◌, ◌++◌, Option, Some, None, drop, slice_index, refl, sym, ap, ◌∙◌}
+use Rattle.std.proofs.Common.{◌≡◌, ℕ, Bool, true, false, List, [], ◌∷◌, ◌++◌, Option, Some, None, drop, slice_index, refl, sym, ap, subst, ◌∙◌}
 use Rattle.b2_base.specs.declared.extent.Extent.{Extent}
 use Rattle.rule_table.specs.declared.fault.FaultKind.TheVariants.{Cap}
+use Rattle.b2_types.specs.declared.answer.AnswerOf.{AnswerOf}
 use Rattle.b2_types.specs.declared.answer.AnswerOf.TheVariants as answer
 use Rattle.b2_types.specs.declared.call.Call.{Call}
 use Rattle.b2_types.specs.declared.fault.Fault.{Fault}
@@ -16,8 +17,9 @@ use Rattle.auth_grants.specs.Tokens.{GiveTwo}
 use Rattle.auth_grants.specs.declared.grants.Terms.{Terms}
 use Rattle.core_policy.proofs.Order.{by_next}
 use Rattle.core_state.specs.GivenTokens.{GivesToken, HasGiven, HasNone, grant_of, with_token}
-use Rattle.core_decisions.specs.Decided.{AreWords, ComesTo, Copies, IsAnswer, answering, at_extents}
-use Rattle.core_decisions.proofs.Drawn.{as_ruled, comes_to, passed_first}
+use Rattle.core_decisions.specs.Decided.{ComesTo, Copies, IsAnswer, IsDecision, answering, at_extents}
+use Rattle.core_decisions.specs.declared.decision.Decision.TheVariants as decision
+use Rattle.core_decisions.proofs.Drawn.{answered, as_ruled, comes_to, passed_first}
 use Rattle.core_decisions.proofs.Forms.{Form, policy_on}
 use Rattle.core_keys.specs.Giving.{IsGiving}
 
@@ -82,3 +84,21 @@ none_given M t token c terms shows ahead left N gives none = rw (none.state, non
     all : (o : Option (List ℕ)) → IsAnswer M t token c o o (at_moment M t) (answer.Refused (plain Cap))
     all None = comes_to M t token c None None (answering (at_moment M t) (answer.Refused (plain Cap))) [] [] tt (λ copy. (gives copy []).1 none.serial)
     all (Some words) = comes_to M t token c (Some words) (Some words) (answering (at_moment M t) (answer.Refused (plain Cap))) words words (refl, refl) (λ copy. (gives copy words).1 none.serial)
+
+-- ---- the ends of such a call
+
+pub refused_told : (M : State Extent) (t : ℕ) (token : Option (List ℕ)) (c : Call) (ahead : Option (List ℕ)) (N : State Extent) (told : AnswerOf Extent) (fault : Fault) → N ≡ at_moment M t → told ≡ answer.Refused fault
+    → IsDecision M t token c (decision.Reply (answer.Refused fault)) → IsAnswer M t token c ahead ahead N told
+refused_told M t token c ahead N told fault state is refused =
+    answered M t token c ahead ahead N told refl state (subst (λ a. IsDecision M t token c (decision.Reply a)) (sym is) refused)
+
+pub none_told : (M : State Extent) (t : ℕ) (token : Option (List ℕ)) (c : Call) (terms : Terms) (shows : List ℕ → Shown) (ahead left : Option (List ℕ)) (N : State Extent) (text : Option (List ℕ)) (told : AnswerOf Extent)
+    → IsGiving M t token c terms shows → GivesToken M t terms ahead left N text → text ≡ None → told ≡ answer.Refused (plain Cap) → IsAnswer M t token c ahead left N told
+none_told M t token c terms shows ahead left N text told gives given is told_is =
+    subst (IsAnswer M t token c ahead left N) (sym told_is) (none_given M t token c terms shows ahead left N gives (subst (GivesToken M t terms ahead left N) is given))
+
+pub given_told : (M : State Extent) (t : ℕ) (token : Option (List ℕ)) (c : Call) (terms : Terms) (shows : List ℕ → Shown) (ahead left : Option (List ℕ)) (N : State Extent) (o : Option (List ℕ)) (text : List ℕ) (shown : Shown)
+    → IsGiving M t token c terms shows → GivesToken M t terms ahead left N o → o ≡ Some text → (N ≡ with_token M t text terms → shown ≡ shows text) → IsAnswer M t token c ahead left N (answer.Json shown)
+given_told M t token c terms shows ahead left N o text shown gives given is shown_is =
+    let has : HasGiven M t terms ahead left N text = subst (GivesToken M t terms ahead left N) is given in
+    token_given M t token c terms shows ahead left N text shown gives has (shown_is has.state)

@@ -6,7 +6,7 @@ ghost use Rattle.b2_base.specs.BucketId.{bucket_id};
 ghost use Rattle.b2_base.specs.FileId.{file_id};
 ghost use Rattle.b2_types.specs.declared.answer.AnswerOf.TheVariants as answer;
 ghost use Rattle.b2_types.specs.declared.call.Call.TheVariants as calls;
-ghost use Rattle.b2_model.specs.Kinds.{later};
+ghost use Rattle.b2_model.specs.Kinds.{is_start, later};
 ghost use Rattle.core_state.specs.GivenTokens.{MayHave};
 ghost use Rattle.core_decisions.specs.declared.decision.Decision.TheVariants as decision;
 ghost use Rattle.core_decisions.specs.Decided.{IsAnswer, IsDecision};
@@ -18,7 +18,7 @@ use auth_grants::Terms;
 use b2_base::{BucketId, BucketNum, FileId, Memory, Moment, Settings, Text, VersionNum};
 use b2_types::{
     Action, Answer, AnswerOf, AuthorizeDownload, Fault, FileCall, GetUploadUrl, Shown,
-    ShownDownloadToken, ShownPartUrl, ShownUploadUrl, TokenKind, VersionId,
+    ShownDownloadToken, ShownPartUrl, ShownUploadUrl, TokenKind, Version, VersionId,
 };
 use core_policy::{asker_of, bucket_for, file_for, prefix_for};
 use core_state::Core;
@@ -94,6 +94,13 @@ pub fn get_upload_url<W: Words>(
     Ok((core, AnswerOf::Json(Shown::UploadUrl(shown))))
 }
 
+// Whether the version is a large file that was started and is not finished.
+fn is_start(version: &Version) -> bool
+    ensures { result ≡ is_start version.now.action }
+{
+    matches!(version.action, Action::Start)
+}
+
 // What the token of a part URL is given for, or the first refusal.
 fn part_terms(
     alloc: Global,
@@ -116,7 +123,7 @@ fn part_terms(
         Ok(version) => version,
         Err(kind) => return Err(Fault::plain(kind)),
     };
-    if !matches!(version.action, Action::Start) {
+    if !is_start(version) {
         return Err(Fault::plain(FaultKind::NotLarge));
     }
     let key = key_num(&asker);
