@@ -52,16 +52,22 @@ fn upload_terms(
     Ok(day_terms(alloc, t, TokenKind::UploadUrl, key, bucket.num, file))
 }
 
+// The URL of what has the id behind this path.
+fn url_at(alloc: Global, front: &str, path: &str, id: &str) -> Result<Text, Memory>
+    ensures { IfOk result (λ url. url ≡ front.now ++ path.now ++ id.now) }
+{
+    let url = format!(in alloc; "{front}{path}{id}")?;
+    Ok(Text::of(url))
+}
+
 // The URL for uploads to a bucket.
 fn upload_url(alloc: Global, settings: &Settings, bucket: BucketNum) -> Result<Text, Memory>
     ensures { IfOk result (λ url. url
         ≡ settings.now.url ++ codes "/b2api/v3/b2_upload_file/" ++ bucket_id bucket) }
 {
-    let front = settings.url.get();
     let id = BucketId::write(alloc, bucket)?;
-    let id = id.get();
-    let url = format!(in alloc; "{front}/b2api/v3/b2_upload_file/{id}")?;
-    Ok(Text::of(url))
+    let path = "/b2api/v3/b2_upload_file/";
+    url_at(alloc, settings.url.get(), path, id.get())
 }
 
 /// Gives a token to upload files to a bucket.
@@ -147,11 +153,9 @@ fn part_url(
     ensures { IfOk result (λ url. url
         ≡ settings.now.url ++ codes "/b2api/v3/b2_upload_part/" ++ file_id bucket file) }
 {
-    let front = settings.url.get();
     let id = FileId::write(alloc, bucket, file)?;
-    let id = id.get();
-    let url = format!(in alloc; "{front}/b2api/v3/b2_upload_part/{id}")?;
-    Ok(Text::of(url))
+    let path = "/b2api/v3/b2_upload_part/";
+    url_at(alloc, settings.url.get(), path, id.get())
 }
 
 /// Gives a token to upload parts of a large file that was started.
