@@ -1,25 +1,28 @@
-use Rattle.std.proofs.Common.{rules, ◌≡◌, ◌≤◌, ◌++◌, ◌*◌, Some, IfErr, IfOk, codes, ℕ, ◌+◌, ◌-◌, ◌<◌, length, ◌/◌, ◌%◌, Bool, true, false, nat_eq, nat_lt, List, [], ◌∷◌, slice_index_or, slice_set, bit_and, bit_or, Fits, w8, w32, w64, Bor, MutBor}
+use Rattle.std.proofs.Common.{ap, ◌∙◌}
 use Rattle.std.specs.Option.{option_copied}
-use Rattle.b2_base.specs.BucketId.{bucket_id}
-use Rattle.b2_base.specs.FileId.{file_id}
-use Rattle.b2_types.specs.declared.answer.AnswerOf.TheVariants as answer
 use Rattle.b2_types.specs.declared.call.Call.TheVariants as calls
-use Rattle.b2_model.specs.Kinds.{is_start, later}
-use Rattle.core_state.specs.GivenTokens.{MayHave}
-use Rattle.core_decisions.specs.declared.decision.Decision.TheVariants as decision
-use Rattle.core_decisions.specs.Decided.{IsAnswer, IsDecision}
-use Rattle.core_keys.specs.Giving.{IsGiving}
-use Rattle.core_keys.specs.ShownTokens.{shows_download, shows_part, shows_upload}
+use Rattle.b2_types.specs.declared.shown.Shown.TheVariants as shown
+use Rattle.core_keys.specs.ShownTokens.{shows_download}
+use Rattle.core_keys.proofs.Giving.{given_told, none_told, refused_told}
 use Rattle.core_keys.proofs.urls.get_download_authorization.Goals as goal
 
--- src/urls.rt:252:23
 pub returns-in-Err : goal.returns-in-Err
-returns-in-Err g c = ?
+returns-in-Err g c =
+    refused_told c.args.core c.args.t (option_copied c.args.token) (calls.GetDownloadAuthorization c.args.call.now) (g.W.Words.ahead c.args.luck.now)
+    c.refused.result.0 c.refused.result.1 c.in-Err.fault c.refused.ensures.state c.refused.ensures.answer c.in-Err.ensures.refused
 
--- src/urls.rt:256:9
 pub returns-in_default : goal.returns-in_default
-returns-in_default g c = ?
+returns-in_default g c =
+    let M = c.args.core in
+    let q = c.args.call.now in
+    none_told M c.args.t (option_copied c.args.token) (calls.GetDownloadAuthorization q) c.in-Ok.terms (shows_download q.bucket q.prefix) (g.W.Words.ahead c.args.luck.now) (g.W.Words.ahead c.give_token.new.luck)
+    c.in_ok-core.core c.in_ok-core.given c.no_serial.result c.in-Ok.ensures.giving c.in_ok-core.ensures c.in_default.is c.no_serial.ensures
 
--- src/urls.rt:236:1
 pub returns : goal.returns
-returns g c = ?
+returns g c =
+    let M = c.args.core in
+    let q = c.args.call.now in
+    given_told M c.args.t (option_copied c.args.token) (calls.GetDownloadAuthorization q) c.in-Ok.terms (shows_download q.bucket q.prefix) (g.W.Words.ahead c.args.luck.now) (g.W.Words.ahead c.give_token.new.luck)
+    c.in_ok-core.core c.in_ok-core.given c.in-Some.text (shown.DownloadToken (record { bucket = q.bucket; prefix = c.in_ok-shown_prefix.shown_prefix; token = c.in-Some.text }))
+    c.in-Ok.ensures.giving c.in_ok-core.ensures c.in-Some.is
+    (λ state. ap (λ p. shown.DownloadToken (record { bucket = q.bucket; prefix = p; token = c.in-Some.text })) (c.in_ok-shown_prefix.ensures ∙ c.get-2.ensures))

@@ -1,25 +1,30 @@
-use Rattle.std.proofs.Common.{rules, ◌≡◌, ◌≤◌, ◌++◌, ◌*◌, Some, IfErr, IfOk, codes, ℕ, ◌+◌, ◌-◌, ◌<◌, length, ◌/◌, ◌%◌, Bool, true, false, nat_eq, nat_lt, List, [], ◌∷◌, slice_index_or, slice_set, bit_and, bit_or, Fits, w8, w32, w64, Bor, MutBor}
+use Rattle.std.proofs.Common.{◌≡◌, ◌++◌, codes, ap, ◌∙◌}
 use Rattle.std.specs.Option.{option_copied}
-use Rattle.b2_base.specs.BucketId.{bucket_id}
 use Rattle.b2_base.specs.FileId.{file_id}
-use Rattle.b2_types.specs.declared.answer.AnswerOf.TheVariants as answer
 use Rattle.b2_types.specs.declared.call.Call.TheVariants as calls
-use Rattle.b2_model.specs.Kinds.{is_start, later}
-use Rattle.core_state.specs.GivenTokens.{MayHave}
-use Rattle.core_decisions.specs.declared.decision.Decision.TheVariants as decision
-use Rattle.core_decisions.specs.Decided.{IsAnswer, IsDecision}
-use Rattle.core_keys.specs.Giving.{IsGiving}
-use Rattle.core_keys.specs.ShownTokens.{shows_download, shows_part, shows_upload}
+use Rattle.b2_types.specs.declared.shown.Shown.TheVariants as shown
+use Rattle.core_keys.specs.ShownTokens.{shows_part}
+use Rattle.core_keys.proofs.Giving.{given_told, none_told, refused_told}
 use Rattle.core_keys.proofs.urls.get_upload_part_url.Goals as goal
 
--- src/urls.rt:176:23
 pub returns-in-Err : goal.returns-in-Err
-returns-in-Err g c = ?
+returns-in-Err g c =
+    refused_told c.args.core c.args.t (option_copied c.args.token) (calls.GetUploadPartUrl c.args.call.now) (g.W.Words.ahead c.args.luck.now)
+    c.refused.result.0 c.refused.result.1 c.in-Err.fault c.refused.ensures.state c.refused.ensures.answer c.in-Err.ensures.refused
 
--- src/urls.rt:180:9
 pub returns-in_default : goal.returns-in_default
-returns-in_default g c = ?
+returns-in_default g c =
+    let M = c.args.core in
+    let q = c.args.call.now in
+    none_told M c.args.t (option_copied c.args.token) (calls.GetUploadPartUrl q) c.in-Ok.terms (shows_part M q.bucket q.file) (g.W.Words.ahead c.args.luck.now) (g.W.Words.ahead c.give_token.new.luck)
+    c.in_ok-core.core c.in_ok-core.given c.no_serial.result c.in-Ok.ensures.giving c.in_ok-core.ensures c.in_default.is c.no_serial.ensures
 
--- src/urls.rt:162:1
 pub returns : goal.returns
-returns g c = ?
+returns g c =
+    let M = c.args.core in
+    let q = c.args.call.now in
+    given_told M c.args.t (option_copied c.args.token) (calls.GetUploadPartUrl q) c.in-Ok.terms (shows_part M q.bucket q.file) (g.W.Words.ahead c.args.luck.now) (g.W.Words.ahead c.give_token.new.luck)
+    c.in_ok-core.core c.in_ok-core.given c.in-Some.text (shown.PartUrl (record { file = record { bucket = q.bucket; num = q.file }; token = c.in-Some.text; url = c.in_ok-url.url }))
+    c.in-Ok.ensures.giving c.in_ok-core.ensures c.in-Some.is
+    (λ state. ap (λ u. shown.PartUrl (record { file = record { bucket = q.bucket; num = q.file }; token = c.in-Some.text; url = u }))
+    (c.in_ok-url.ensures ∙ ap (λ s. s.url ++ codes "/b2api/v3/b2_upload_part/" ++ file_id q.bucket q.file) (c.settings.ensures ∙ ap (λ N. N.settings) state)))
