@@ -6,6 +6,7 @@ use Rattle.std.specs.Cmp.Lexicographic.{bytes_decides}
 use Rattle.std.proofs.lemmas.Bool.{false≢true}
 use Rattle.std.proofs.lemmas.Bool.Decides.{nat_tests}
 use Rattle.std.proofs.lemmas.List.Elements.{All-head, All-tail}
+use Rattle.std.proofs.lemmas.Option.{none-some}
 use Rattle.sha2.specs.Sha256.{sha256}
 use Rattle.b2_base.specs.Digits.{eight_digits}
 use Rattle.b2_base.specs.declared.extent.Extent.{Extent}
@@ -18,7 +19,8 @@ use Rattle.b2_model.specs.Policy.{key_by}
 use Rattle.b2_model.specs.State.{State, key_at}
 use Rattle.sound_states.specs.Sound.{IsAscending, IsSound}
 use Rattle.sound_states.proofs.Ascending.{all_from, pairs_head, pairs_tail}
-use Rattle.sound_states.proofs.Tests.{equal_numbers}
+use Rattle.sound_states.proofs.Found.{found_has}
+use Rattle.sound_states.proofs.Tests.{both_hold, equal_numbers}
 
 -- ---- one number has one id
 
@@ -120,3 +122,20 @@ module _ (M : State Extent) (sound : IsSound M) where
   pub no_secret : (c : Credentials) → ((key : ℕ) → key < 2 ^ 32 → c.id ≡ key_id M.settings.account key → ⊥) → key_by M c ≡ None
   no_secret c none = find_none (λ k. has_id c.id k && has_secret c k) M.keys
       (all_from (λ k. has_id c.id k ≡ false) (λ k. (has_id c.id k && has_secret c k) ≡ false) M.keys (λ k other. ap (λ b. b && has_secret c k) other) (none_tells c.id none))
+
+  -- a key whose secret is known is found by its id alone
+  from_only : (q : Key → Bool) (o : Option Key) (k : Key) → only q o ≡ Some k → o ≡ Some k
+  from_only q None k is = absurd (none-some k is)
+  from_only q (Some x) k is = at (q x) is
+    where
+      at : (b : Bool) → (if b then Some x else None) ≡ Some k → Some x ≡ Some k
+      at true is = is
+      at false is = absurd (none-some k is)
+
+  pub known_by_id : (c : Credentials) (k : Key) → key_by M c ≡ Some k → key_of_id M c.id ≡ Some k
+  known_by_id c k is =
+      let has = found_has (λ k. has_id c.id k && has_secret c k) (λ (k : Key). k.num < 2 ^ 32) M.keys k each_small is in
+      let own = both_hold (has_id c.id k) (has_secret c k) has.0 in
+      let id : c.id ≡ key_id M.settings.account k.num = sym ((bytes_decides (key_id M.settings.account k.num) c.id).0 own.0) in
+      from_only (has_secret c) (key_of_id M c.id) k
+      (ap (only (has_secret c)) (sym (by_number c.id k.num has.1 id)) ∙ sym (by_secret c k.num has.1 id) ∙ is)

@@ -5,3 +5,4 @@ pub mod Giving
 pub mod OnKeys
 pub mod Made
 pub mod OnTokens
+pub mod OnAccount

@@ -121,6 +121,7 @@ fn known_key<'a>(core: &'a Core, call: &Authorize) -> &'a Key
     requires { IsSome (option_and_then (key_by core.now) call.now.credentials) }
     ensures { option_and_then (key_by core.now) call.now.credentials ≡ Some result.now }
 {
+    core.is_sound();
     let Some(credentials) = &call.credentials else {
         unreachable!();
     };
