@@ -1,5 +1,5 @@
 -- A key is found by the number that its id tells.
-use Rattle.std.proofs.Common.{◌≡◌, ℕ, zero, suc, ◌+◌, ◌<◌, ◌≤◌, ◌^◌, ◌==◌, ◌&&◌, Bool, true, false, List, [], ◌∷◌, ◌++◌, All, Option, Some, None, find, bytes_eq, codes, length, slice_index_or, if◌then◌else◌, refl, sym, ap, subst, ◌∙◌, arith, length-append}
+use Rattle.std.proofs.Common.{◌≡◌, ℕ, zero, suc, ◌<◌, ◌^◌, ◌==◌, ◌&&◌, Bool, true, false, List, [], ◌∷◌, ◌++◌, All, Option, Some, None, find, bytes_eq, codes, length, slice_index_or, if◌then◌else◌, refl, sym, ap, ◌∙◌, arith, length-append}
 use Rattle.std.proofs.lemmas.List.{append_cancel_left}
 use Rattle.std.specs.List.{AllPairs}
 use Rattle.std.specs.Cmp.Lexicographic.{bytes_decides}
@@ -17,7 +17,7 @@ use Rattle.b2_types.specs.KeyId.{key_id}
 use Rattle.b2_model.specs.AskKeys.{key_of_id}
 use Rattle.b2_model.specs.Policy.{key_by}
 use Rattle.b2_model.specs.State.{State, key_at}
-use Rattle.sound_states.specs.Sound.{IsAscending, IsSound}
+use Rattle.sound_states.specs.Sound.{IsSound}
 use Rattle.sound_states.proofs.Ascending.{all_from, pairs_head, pairs_tail}
 use Rattle.sound_states.proofs.Found.{found_has}
 use Rattle.sound_states.proofs.Tests.{both_hold, equal_numbers}

@@ -1,5 +1,5 @@
 -- A key that is made of the words that are drawn.
-use Rattle.std.proofs.Common.{◌≡◌, ℕ, List, ◌∷◌, [], Option, Some, None, Err, drop, map, slice_index, refl, sym, ap, subst, ◌∙◌}
+use Rattle.std.proofs.Common.{◌≡◌, ℕ, List, Option, Some, None, Err, drop, refl, sym, ap, subst, ◌∙◌}
 use Rattle.std.proofs.lemmas.Option.{none-some}
 use Rattle.b2_base.specs.Failure.{IfFault}
 use Rattle.b2_base.specs.declared.extent.Extent.{Extent}
@@ -10,7 +10,7 @@ use Rattle.b2_types.specs.declared.call.Call.TheVariants as call
 use Rattle.b2_types.specs.declared.call.CreateKey.{CreateKey}
 use Rattle.b2_types.specs.declared.fault.Fault.{Fault}
 use Rattle.b2_types.specs.declared.key.Key.{Key}
-use Rattle.b2_model.specs.Ask.{ask, outcome_or_refusal, refusals_of}
+use Rattle.b2_model.specs.Ask.{ask, outcome_or_refusal}
 use Rattle.b2_model.specs.AskKeys.{create_key, new_key, secret_text}
 use Rattle.b2_model.specs.Checks.{first_fault}
 use Rattle.b2_model.specs.Policy.{Caller, caller_of}
@@ -20,7 +20,7 @@ use Rattle.app_keys.specs.declared.create.NewKey.{NewKey}
 use Rattle.app_keys.specs.declared.refusal.KeyRefusal.{KeyRefusal}
 use Rattle.core_decisions.specs.Decided.{Copies, IsDrawn, at_extents, outcome}
 use Rattle.core_decisions.specs.declared.decision.Decision.{Decision}
-use Rattle.core_decisions.proofs.Drawn.{Ruled, comes_to, passed_first}
+use Rattle.core_decisions.proofs.Drawn.{comes_to, passed_first}
 use Rattle.core_decisions.proofs.Forms.{some_is}
 use Rattle.core_keys.specs.Made.{key_fault, written}
 use Rattle.core_keys.proofs.OnKeys.{create_rules}

@@ -1,4 +1,1 @@
 pub mod Made
-pub mod Giving
-pub mod ShownTokens
-pub mod Accounts

@@ -22,7 +22,7 @@ use policy_rules::Asker;
 use rule_table::{CallName, FaultKind};
 
 /// The key of this id.
-pub(crate) fn key_of_id<'a>(core: &'a Core, id: &[u8]) -> Option<&'a Key>
+pub fn key_of_id<'a>(core: &'a Core, id: &[u8]) -> Option<&'a Key>
     ensures { option_copied result ≡ key_of_id core.now id.now }
 {
     core.is_sound();
@@ -33,7 +33,7 @@ pub(crate) fn key_of_id<'a>(core: &'a Core, id: &[u8]) -> Option<&'a Key>
 }
 
 /// The key of these credentials, where the secret is its own.
-pub(crate) fn key_by<'a>(core: &'a Core, credentials: &Credentials) -> Option<&'a Key>
+pub fn key_by<'a>(core: &'a Core, credentials: &Credentials) -> Option<&'a Key>
     ensures { option_copied result ≡ key_by core.now credentials.now }
 {
     core.is_sound();

@@ -1,4 +1,4 @@
-use Rattle.std.proofs.Common.{◌≡◌, ℕ, List, [], Some, None, map, unwrap_or, refl, sym, ap, ◌∙◌}
+use Rattle.std.proofs.Common.{◌≡◌, ℕ, List, [], Some, map, refl, sym, ap, ◌∙◌}
 use Rattle.std.proofs.lemmas.Result.{IfOk-weaker}
 use Rattle.std.specs.Option.{option_copied}
 use Rattle.rule_table.specs.declared.call.CallName.TheVariants.{CreateKey}
@@ -9,8 +9,6 @@ use Rattle.b2_types.specs.declared.call.Call.TheVariants as calls
 use Rattle.b2_types.specs.declared.fault.Fault.{Fault}
 use Rattle.b2_model.specs.AskKeys.{create_key}
 use Rattle.b2_model.specs.Checks.{first_fault}
-use Rattle.b2_model.specs.Policy.{caller_of}
-use Rattle.app_keys.specs.Keys.{kind_of}
 use Rattle.policy_rules.specs.Asked.{caller}
 use Rattle.core_policy.specs.Rules.{all_stand, judged_on, rules_on}
 use Rattle.core_decisions.specs.Decided.{IsDrawn}

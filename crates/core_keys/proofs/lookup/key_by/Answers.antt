@@ -1,4 +1,4 @@
-use Rattle.std.proofs.Common.{rules, ◌≡◌, ◌<◌, ◌^◌, Bool, Some, None, if◌then◌else◌, bytes_eq, sym, ap, ◌∙◌, arith}
+use Rattle.std.proofs.Common.{rules, Bool, Some, None, if◌then◌else◌, bytes_eq, sym, ap, ◌∙◌, arith}
 use Rattle.sha2.specs.Sha256.{sha256}
 use Rattle.b2_types.specs.KeyId.{key_id}
 use Rattle.core_keys.proofs.ByNumber.{by_secret, has_secret, no_secret, only}

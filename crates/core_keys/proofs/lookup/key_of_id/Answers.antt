@@ -1,4 +1,4 @@
-use Rattle.std.proofs.Common.{rules, ◌≡◌, ◌<◌, ◌^◌, sym, ap, ◌∙◌, arith}
+use Rattle.std.proofs.Common.{rules, sym, ap, ◌∙◌, arith}
 use Rattle.b2_types.specs.KeyId.{key_id}
 use Rattle.core_keys.proofs.ByNumber.{by_number, no_number}
 use Rattle.core_keys.proofs.lookup.key_of_id.Goals as goal
