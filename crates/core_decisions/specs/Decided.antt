@@ -1,6 +1,7 @@
 -- What a call comes to on a state, as the version machine has it.
-use Rattle.std.specs.Prelude.{◌≡◌, ℕ, List, Option}
+use Rattle.std.specs.Prelude.{◌≡◌, ⊤, ℕ, List, Option, Some, None}
 use Rattle.b2_base.specs.declared.extent.Extent.{Extent}
+use Rattle.b2_types.specs.declared.answer.AnswerOf.{AnswerOf}
 use Rattle.b2_types.specs.declared.call.Call.{Call}
 use Rattle.b2_model.specs.Body.{Body}
 use Rattle.b2_model.specs.State.{State, Pieces}
@@ -25,3 +26,27 @@ outcome M t words (decision.Write r told) = record { state = after_record (at_mo
 -- the machine does and answers just so, and draws no random word
 unfoldable pub IsDecision : State Extent → ℕ → Option (List ℕ) → Call → Decision → Type 0
 IsDecision M t token c d = (copy : Copies) (words : List ℕ) → ask (at_extents copy) M t words token c ≡ outcome M t words d
+
+-- ---- with random words
+
+-- the words of a giver, and those that are left: where it tells the words ahead, they are these
+abbrev pub AreWords : Option (List ℕ) → Option (List ℕ) → List ℕ → List ℕ → Type 0
+AreWords None left words rest = ⊤
+AreWords (Some ahead) None words rest = ⊥
+AreWords (Some ahead) (Some told) words rest = (words ≡ ahead) × (rest ≡ told)
+
+-- the machine makes this of the giver's words, and of those that are left
+unfoldable pub ComesTo : State Extent → ℕ → Option (List ℕ) → Call → Option (List ℕ) → Option (List ℕ) → (List ℕ → Outcome Extent) → Type 0
+ComesTo M t token c ahead left made =
+    (words : List ℕ) × (rest : List ℕ) × AreWords ahead left words rest × ((copy : Copies) → ask (at_extents copy) M t words token c ≡ made rest)
+
+-- it does and answers just so
+abbrev pub IsDrawn : State Extent → ℕ → Option (List ℕ) → Call → Option (List ℕ) → Option (List ℕ) → Decision → Type 0
+IsDrawn M t token c ahead left d = ComesTo M t token c ahead left (λ rest. outcome M t rest d)
+
+-- this is the state after it, and its answer
+abbrev pub answering : State Extent → AnswerOf Extent → List ℕ → Outcome Extent
+answering N told rest = record { state = N; answer = told; words = rest }
+
+abbrev pub IsAnswer : State Extent → ℕ → Option (List ℕ) → Call → Option (List ℕ) → Option (List ℕ) → State Extent → AnswerOf Extent → Type 0
+IsAnswer M t token c ahead left N told = ComesTo M t token c ahead left (answering N told)

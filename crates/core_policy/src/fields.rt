@@ -1,10 +1,9 @@
 //! The fields of calls that name something.
 
-ghost use Rattle.std.specs.Prelude.{◌≡◌, Some};
+ghost use Rattle.std.specs.Prelude.{◌≡◌, Some, map};
 ghost use Rattle.std.specs.Option.{option_copied};
 ghost use Rattle.b2_types.specs.declared.call.Call.TheVariants as calls;
-ghost use Rattle.b2_types.specs.Naming.{fields_of};
-ghost use Rattle.b2_types.specs.Naming.{in_bucket, nothing, on_account, on_file, on_name, with_prefix};
+ghost use Rattle.b2_types.specs.Naming.{fields_of, in_bucket, nothing, of_number, on_account, on_file, on_name, with_prefix};
 ghost use Rattle.policy_rules.specs.Asked.{named};
 
 use b2_base::{BucketNum, Text, VersionNum};
@@ -12,8 +11,8 @@ use b2_types::{ListBuckets, VersionId};
 use name_rules::FileName;
 use policy_rules::{Fields, SomeBucket};
 
-// Nothing is named.
-fn no_fields<'a>() -> Fields<'a>
+/// Nothing is named.
+pub(crate) fn no_fields<'a>() -> Fields<'a>
     ensures { named result ≡ nothing }
 {
     Fields {
@@ -74,6 +73,17 @@ pub(crate) fn file_fields<'a>(bucket: BucketNum, file: VersionNum) -> Fields<'a>
 {
     let mut fields = no_fields();
     fields.file = Some(VersionId { bucket, num: file });
+    fields
+}
+
+/// Those of a call on an account that names several of its buckets.
+pub(crate) fn buckets_fields<'a>(account: &'a Text, buckets: &'a [BucketNum]) -> Fields<'a>
+    ensures { named result ≡ record (on_account account.now) {
+      some_bucket = Some (map of_number buckets.now);
+    } }
+{
+    let mut fields = account_fields(account, None);
+    fields.some_bucket = Some(SomeBucket::Each(buckets));
     fields
 }
 

@@ -1,20 +1,22 @@
 //! What calls name, where their callers may have it.
 
-ghost use Rattle.std.specs.Prelude.{◌≡◌, [], Some, IfOk};
-ghost use Rattle.std.specs.Option.{option_copied};
+ghost use Rattle.std.specs.Prelude.{◌≡◌, [], Some, IfOk, map};
+ghost use Rattle.std.specs.List.{list_any};
+ghost use Rattle.std.specs.Option.{is_none, option_copied};
 ghost use Rattle.rule_table.specs.declared.fault.FaultKind.TheVariants as kinds;
 ghost use Rattle.b2_types.specs.Fault.{plain};
 ghost use Rattle.b2_types.specs.declared.call.Call.TheVariants as calls;
-ghost use Rattle.b2_types.specs.Naming.{fields_of, in_bucket, on_account, on_file, on_name, with_prefix};
+ghost use Rattle.b2_types.specs.Naming.{fields_of, in_bucket, nothing, of_number, on_account, on_file, on_name, with_prefix};
 ghost use Rattle.b2_model.specs.Checks.{first_fault};
 ghost use Rattle.b2_model.specs.Rows.{version_at};
 ghost use Rattle.b2_model.specs.State.{bucket_at};
 ghost use Rattle.new_versions.specs.Decided.{refused};
 ghost use Rattle.policy_rules.specs.Asked.{caller, judged};
-ghost use Rattle.core_policy.specs.Rules.{judged_on, rules_on, standing};
+ghost use Rattle.core_policy.specs.Rules.{all_stand, judged_on, rules_on, standing};
 
 use crate::fields::{
-    account_fields, bucket_fields, file_fields, filter_fields, name_fields, prefix_fields,
+    account_fields, bucket_fields, buckets_fields, file_fields, filter_fields, name_fields, no_fields,
+    prefix_fields,
 };
 use crate::judge::{may_call, may_name};
 use b2_base::{BucketNum, Moment, Text, VersionNum};
@@ -231,4 +233,71 @@ pub fn list_for(
         fields: filter_fields(call),
     };
     allowed(core, asker, &asked, t)
+}
+
+/// Whether a call that names nothing may be made, or the first rule of the policy that refuses it.
+pub fn call_for(core: &Core, asker: &Asker<'_>, t: Moment, name: CallName) -> Result<(), FaultKind>
+    ensures { refused plain result ≡ first_fault (rules_on core.now t
+        (judged_on name [] nothing) (caller asker.now) []) }
+{
+    let asked = Asked {
+        need: need_of(name),
+        more: &[],
+        fields: no_fields(),
+    };
+    allowed(core, asker, &asked, t)
+}
+
+fn is_absent(core: &Core, bucket: BucketNum) -> bool
+    ensures { result ≡ is_none (bucket_at core.now bucket) }
+{
+    core.bucket(bucket).is_none()
+}
+
+fn is_any_absent(core: &Core, buckets: &[BucketNum]) -> bool
+    ensures { result ≡ list_any (λ n. is_none (bucket_at core.now n)) buckets.now }
+{
+    buckets.iter().any(|bucket| is_absent(core, *bucket))
+}
+
+// The first rule of the policy that refuses a call on these buckets, before whose last stands that
+// each of them is there.
+fn allowed_buckets(
+    core: &Core,
+    asker: &Asker<'_>,
+    asked: &Asked<'_>,
+    t: Moment,
+    buckets: &[BucketNum],
+) -> Result<(), FaultKind>
+    ensures { refused plain result ≡ first_fault (rules_on core.now t
+        (judged asked.now) (caller asker.now) (all_stand core.now buckets.now)) }
+{
+    may_call(core, asker, asked, t)?;
+    if is_any_absent(core, buckets) {
+        return Err(FaultKind::NoBucket);
+    }
+    may_name(core, asker, asked)
+}
+
+/// Whether a call on the account that names these buckets may be made, or the first rule of the
+/// policy that refuses it, before whose last stands that each of them is there.
+pub fn buckets_for(
+    core: &Core,
+    asker: &Asker<'_>,
+    t: Moment,
+    name: CallName,
+    account: &Text,
+    buckets: &[BucketNum],
+) -> Result<(), FaultKind>
+    ensures { refused plain result ≡ first_fault (rules_on core.now t
+        (judged_on name []
+        (record (on_account account.now) { some_bucket = Some (map of_number buckets.now) }))
+        (caller asker.now) (all_stand core.now buckets.now)) }
+{
+    let asked = Asked {
+        need: need_of(name),
+        more: &[],
+        fields: buckets_fields(account, buckets),
+    };
+    allowed_buckets(core, asker, &asked, t, buckets)
 }

@@ -5,3 +5,4 @@ pub mod Places
 pub mod ChangedVersion
 pub mod PassSteps
 pub mod UnderWay
+pub mod GivenTokens

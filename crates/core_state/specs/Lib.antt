@@ -1,3 +1,4 @@
 pub mod View
 pub mod GivenUp
 pub mod Uploads
+pub mod GivenTokens

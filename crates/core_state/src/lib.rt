@@ -11,6 +11,7 @@ mod parts;
 mod pass_steps;
 mod state;
 mod taken;
+mod tokens;
 mod uploads;
 
 pub use large::contents_in;

@@ -1,0 +1,5 @@
+pub mod ByNumber
+pub mod KeyRules
+pub mod KeyPages
+pub mod OnKeys
+pub mod Made

@@ -1,0 +1,4 @@
+pub mod TokenForms
+pub mod Giving
+pub mod OnTokens
+pub mod OnAccount
