@@ -2,20 +2,25 @@
 
 ghost use Rattle.std.specs.Prelude.{◌≡◌, [], Some, IfOk};
 ghost use Rattle.std.specs.Option.{option_copied};
+ghost use Rattle.rule_table.specs.declared.call.CallName.TheVariants as names;
 ghost use Rattle.rule_table.specs.declared.fault.FaultKind.TheVariants as kinds;
 ghost use Rattle.b2_types.specs.Fault.{plain};
-ghost use Rattle.b2_types.specs.Naming.{in_bucket, on_account, on_file, on_name, with_prefix};
+ghost use Rattle.b2_types.specs.Naming.{in_bucket, nothing, on_account, on_file, on_name, with_prefix};
 ghost use Rattle.b2_model.specs.Checks.{first_fault};
+ghost use Rattle.b2_model.specs.Policy.{bucket_named};
 ghost use Rattle.b2_model.specs.Rows.{version_at};
 ghost use Rattle.b2_model.specs.State.{bucket_at};
 ghost use Rattle.new_versions.specs.Decided.{refused};
-ghost use Rattle.policy_rules.specs.Asked.{caller, judged};
-ghost use Rattle.core_policy.specs.Rules.{judged_on, rules_on, standing};
+ghost use Rattle.policy_rules.specs.Asked.{caller, judged, numbers};
+ghost use Rattle.core_policy.specs.Rules.{absent_beside, both, judged_on, rules_on, standing};
 
-use crate::fields::{account_fields, bucket_fields, file_fields, name_fields, prefix_fields};
+use crate::fields::{
+    account_fields, bucket_fields, copy_fields, file_fields, name_fields, part_copy_fields,
+    path_fields, prefix_fields,
+};
 use crate::judge::{may_call, may_name};
 use b2_base::{BucketNum, Moment, Text, VersionNum};
-use b2_types::{Bucket, Version, need_of};
+use b2_types::{Bucket, Version, VersionId, need_of};
 use core_state::Core;
 use name_rules::FileName;
 use policy_rules::{Asked, Asker};
@@ -208,4 +213,102 @@ pub fn file_for<'a>(
         fields: file_fields(bucket, file),
     };
     allowed_file(core, asker, &asked, t, bucket, file)
+}
+
+/// The bucket of a download by name, or the first rule of the policy that refuses it, before whose
+/// last stands that there is a bucket of the name.
+pub fn path_for<'a>(
+    core: &'a Core,
+    asker: &Asker<'_>,
+    t: Moment,
+    bucket: &Text,
+    file: &FileName,
+) -> Result<&'a Bucket, FaultKind>
+    ensures rules { refused plain result ≡ first_fault (rules_on core.now t
+        (judged_on names.DownloadFileByName []
+        (record nothing { path_bucket = Some bucket.now; name = Some file.now }))
+        (caller asker.now) (standing kinds.NoFile (bucket_named core.now bucket.now))) }
+    ensures found { IfOk result (λ b. bucket_named core.now bucket.now ≡ Some b.now) }
+{
+    let asked = Asked {
+        need: need_of(CallName::DownloadFileByName),
+        more: &[],
+        fields: path_fields(bucket, file),
+    };
+    may_call(core, asker, &asked, t)?;
+    let Some(bucket) = core.bucket_named(bucket.get().as_bytes()) else {
+        return Err(FaultKind::NoFile);
+    };
+    may_name(core, asker, &asked)?;
+    Ok(bucket)
+}
+
+/// The bucket that a file is copied to and the source, or the first rule of the policy that refuses
+/// it, before whose last stands that there is such a bucket, and then that there is such a source.
+pub fn copy_for<'a>(
+    core: &'a Core,
+    asker: &Asker<'_>,
+    t: Moment,
+    more: &[Cap],
+    source: VersionId,
+    bucket: BucketNum,
+    file: &FileName,
+) -> Result<(&'a Bucket, &'a Version), FaultKind>
+    ensures rules { refused plain result ≡ first_fault (rules_on core.now t
+        (judged_on names.CopyFile more.now
+        (record (on_name bucket file.now) { source = Some (numbers source) }))
+        (caller asker.now)
+        (standing (absent_beside kinds.NoBucket kinds.NoFile (bucket_at core.now bucket))
+        (both (bucket_at core.now bucket) (version_at core.now source.bucket source.num)))) }
+    ensures found { IfOk result (λ p. both (bucket_at core.now bucket)
+        (version_at core.now source.bucket source.num) ≡ Some (p.0.now, p.1.now)) }
+{
+    let asked = Asked {
+        need: need_of(CallName::CopyFile),
+        more,
+        fields: copy_fields(source, bucket, file),
+    };
+    may_call(core, asker, &asked, t)?;
+    let Some(bucket) = core.bucket(bucket) else {
+        return Err(FaultKind::NoBucket);
+    };
+    let Some(version) = core.version(source.bucket, source.num) else {
+        return Err(FaultKind::NoFile);
+    };
+    may_name(core, asker, &asked)?;
+    Ok((bucket, version))
+}
+
+/// The source and the large file of a copy that makes a part, or the first rule of the policy that
+/// refuses it, before whose last stands that there are such files.
+pub fn part_copy_for<'a>(
+    core: &'a Core,
+    asker: &Asker<'_>,
+    t: Moment,
+    source: VersionId,
+    bucket: BucketNum,
+    file: VersionNum,
+) -> Result<(&'a Version, &'a Version), FaultKind>
+    ensures rules { refused plain result ≡ first_fault (rules_on core.now t
+        (judged_on names.CopyPart []
+        (record (on_file bucket file) { source = Some (numbers source) }))
+        (caller asker.now) (standing kinds.NoFile
+        (both (version_at core.now source.bucket source.num) (version_at core.now bucket file)))) }
+    ensures found { IfOk result (λ p. both (version_at core.now source.bucket source.num)
+        (version_at core.now bucket file) ≡ Some (p.0.now, p.1.now)) }
+{
+    let asked = Asked {
+        need: need_of(CallName::CopyPart),
+        more: &[],
+        fields: part_copy_fields(source, bucket, file),
+    };
+    may_call(core, asker, &asked, t)?;
+    let Some(version) = core.version(source.bucket, source.num) else {
+        return Err(FaultKind::NoFile);
+    };
+    let Some(large) = core.version(bucket, file) else {
+        return Err(FaultKind::NoFile);
+    };
+    may_name(core, asker, &asked)?;
+    Ok((version, large))
 }

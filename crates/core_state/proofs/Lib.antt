@@ -4,3 +4,4 @@ pub mod SameNumber
 pub mod Places
 pub mod ChangedVersion
 pub mod PassSteps
+pub mod CurrentOf

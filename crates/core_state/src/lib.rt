@@ -3,6 +3,7 @@
 
 mod buckets;
 mod changed;
+mod current;
 mod keys;
 mod large;
 mod lookups;
