@@ -25,8 +25,8 @@ rules_on M t j who exists = policy_rules M t j (λ g. true) who exists
 
 -- what is looked up beside a bucket that need not stand
 abbrev pub absent_beside : {X : Type 0} → FaultKind → FaultKind → Option X → FaultKind
-absent_beside first then None = first
-absent_beside first then (Some x) = then
+absent_beside kind other None = kind
+absent_beside kind other (Some x) = other
 
 -- two things, where both stand
 abbrev pub both : {X Y : Type 0} → Option X → Option Y → Option (X × Y)

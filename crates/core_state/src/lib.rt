@@ -14,4 +14,5 @@ mod state;
 mod taken;
 
 pub use large::contents_in;
+pub use made::{marker_of, version_of};
 pub use state::Core;
