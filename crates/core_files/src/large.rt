@@ -108,12 +108,13 @@ pub fn finish_file(
         Ok(version) => version,
         Err(kind) => return Ok(plain_refusal(kind)),
     };
+    let settings = core.settings();
     let default = default_of(core, version.bucket);
-    let record = match finish_large_file(version, default, core.settings().part_min, t, call) {
+    let record = match finish_large_file(version, default, settings.part_min, t, call) {
         Ok(record) => record,
         Err(refused) => return Ok(refusal(fault_of_finish(refused))),
     };
     let retention = own_or_default(t, version.retention, default);
-    let shown = show_finished(alloc, core.settings(), asker.key, version, retention)?;
+    let shown = show_finished(alloc, settings, asker.key, version, retention)?;
     Ok(Decision::Write(record, AnswerOf::Json(Shown::File(shown))))
 }
