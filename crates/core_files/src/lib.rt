@@ -9,4 +9,4 @@ mod shown;
 pub use downloads::{download_by_id, download_by_name};
 pub use hidden::hide_file;
 pub use large::{finish_file, locked_caps, start_file};
-pub use shown::show_new;
+pub use shown::show_made;
