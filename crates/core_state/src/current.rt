@@ -1,21 +1,27 @@
 //! The current version of a name.
 
-ghost use Rattle.std.specs.Prelude.{◌≡◌, ◌<◌, ◌+◌, IfOk, MatchOption};
+ghost use Rattle.std.specs.Prelude.{◌≡◌, ◌<◌, ◌+◌, IfOk, MatchOption, bytes_eq};
 ghost use Rattle.std.specs.Option.{option_copied};
 ghost use Rattle.b2_model.specs.Current.{current_in};
 ghost use Rattle.b2_model.specs.Kinds.{is_start};
 ghost use Rattle.index_rows.specs.OwnRows.{AreOwn, of_bucket};
 
-use b2_base::{Blob, BucketNum, LAST_VERSION, Memory, VersionNum};
+use b2_base::{Blob, BucketNum, Memory, VersionNum};
 use b2_types::{Action, Version};
 use std::alloc::Global;
 use std::sync::ledger::{Blank, Ledger};
-use version_index::{Index, Spot, Steps};
+use version_index::{Index, Steps, first_spot};
 
 fn is_start(version: &Version) -> bool
     ensures { result ≡ is_start version.now.action }
 {
     matches!(version.action, Action::Start)
+}
+
+fn is_named(version: &Version, name: &[u8]) -> bool
+    ensures { result ≡ bytes_eq version.now.name name.now }
+{
+    version.name.get().as_bytes() == name
 }
 
 // The number below.
@@ -42,13 +48,10 @@ pub(crate) fn current_of<'a, L: Ledger>(
 {
     index.in_order();
     let mut steps = Steps::<L>::new(blank);
-    let mut place = Spot {
-        bucket,
-        name: Blob::copy(alloc, name)?,
-        num: VersionNum::new(LAST_VERSION).unwrap(),
-    };
+    let mut place = first_spot(alloc, bucket);
+    place.name = Blob::copy(alloc, name)?;
     'starts: while let Some((_, version)) = index.seek(&place, &mut steps) {
-        if version.name.get().as_bytes() != name {
+        if !is_named(version, name) {
             return Ok(None);
         }
         if !is_start(version) {
