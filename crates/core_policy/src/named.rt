@@ -2,7 +2,6 @@
 
 ghost use Rattle.std.specs.Prelude.{◌≡◌, [], Some, IfOk};
 ghost use Rattle.std.specs.Option.{option_copied};
-ghost use Rattle.rule_table.specs.declared.call.CallName.TheVariants as names;
 ghost use Rattle.rule_table.specs.declared.fault.FaultKind.TheVariants as kinds;
 ghost use Rattle.b2_types.specs.Fault.{plain};
 ghost use Rattle.b2_types.specs.Naming.{in_bucket, nothing, on_account, on_file, on_name, with_prefix};
@@ -215,68 +214,130 @@ pub fn file_for<'a>(
     allowed_file(core, asker, &asked, t, bucket, file)
 }
 
+// The bucket of this name, or the first rule of the policy that refuses it, before whose last stands
+// that there is such a bucket.
+fn allowed_path<'a>(
+    core: &'a Core,
+    asker: &Asker<'_>,
+    asked: &Asked<'_>,
+    t: Moment,
+    bucket: &Text,
+) -> Result<&'a Bucket, FaultKind>
+    ensures rules { refused plain result ≡ first_fault
+        (rules_on core.now t (judged asked.now) (caller asker.now)
+        (standing kinds.NoFile (bucket_named core.now bucket.now))) }
+    ensures found { IfOk result (λ b. bucket_named core.now bucket.now ≡ Some b.now) }
+{
+    may_call(core, asker, asked, t)?;
+    let found = core.bucket_named(bucket.get().as_bytes());
+    let bucket = found.ok_or(FaultKind::NoFile)?;
+    may_name(core, asker, asked)?;
+    Ok(bucket)
+}
+
 /// The bucket of a download by name, or the first rule of the policy that refuses it, before whose
 /// last stands that there is a bucket of the name.
 pub fn path_for<'a>(
     core: &'a Core,
     asker: &Asker<'_>,
     t: Moment,
+    name: CallName,
     bucket: &Text,
     file: &FileName,
 ) -> Result<&'a Bucket, FaultKind>
     ensures rules { refused plain result ≡ first_fault (rules_on core.now t
-        (judged_on names.DownloadFileByName []
+        (judged_on name []
         (record nothing { path_bucket = Some bucket.now; name = Some file.now }))
         (caller asker.now) (standing kinds.NoFile (bucket_named core.now bucket.now))) }
     ensures found { IfOk result (λ b. bucket_named core.now bucket.now ≡ Some b.now) }
 {
     let asked = Asked {
-        need: need_of(CallName::DownloadFileByName),
+        need: need_of(name),
         more: &[],
         fields: path_fields(bucket, file),
     };
-    may_call(core, asker, &asked, t)?;
-    let Some(bucket) = core.bucket_named(bucket.get().as_bytes()) else {
-        return Err(FaultKind::NoFile);
-    };
-    may_name(core, asker, &asked)?;
-    Ok(bucket)
+    allowed_path(core, asker, &asked, t, bucket)
+}
+
+// A bucket and a file, or the first rule of the policy that refuses them, before whose last stands
+// that there is such a bucket, and then that there is such a file.
+fn allowed_pair<'a>(
+    core: &'a Core,
+    asker: &Asker<'_>,
+    asked: &Asked<'_>,
+    t: Moment,
+    bucket: BucketNum,
+    source: &VersionId,
+) -> Result<(&'a Bucket, &'a Version), FaultKind>
+    ensures rules { refused plain result ≡ first_fault
+        (rules_on core.now t (judged asked.now) (caller asker.now)
+        (standing (absent_beside kinds.NoBucket kinds.NoFile (bucket_at core.now bucket))
+        (both (bucket_at core.now bucket) (version_at core.now source.now.bucket source.now.num)))) }
+    ensures found { IfOk result (λ p. both (bucket_at core.now bucket)
+        (version_at core.now source.now.bucket source.now.num) ≡ Some (p.0.now, p.1.now)) }
+{
+    may_call(core, asker, asked, t)?;
+    let bucket = core.bucket(bucket).ok_or(FaultKind::NoBucket)?;
+    let found = core.version(source.bucket, source.num);
+    let version = found.ok_or(FaultKind::NoFile)?;
+    may_name(core, asker, asked)?;
+    Ok((bucket, version))
 }
 
 /// The bucket that a file is copied to and the source, or the first rule of the policy that refuses
 /// it, before whose last stands that there is such a bucket, and then that there is such a source.
-pub fn copy_for<'a>(
+pub fn copy_for<'a, 'b>(
     core: &'a Core,
     asker: &Asker<'_>,
     t: Moment,
-    more: &[Cap],
-    source: VersionId,
+    name: CallName,
+    more: &'b [Cap],
+    source: &VersionId,
     bucket: BucketNum,
-    file: &FileName,
+    file: &'b FileName,
 ) -> Result<(&'a Bucket, &'a Version), FaultKind>
     ensures rules { refused plain result ≡ first_fault (rules_on core.now t
-        (judged_on names.CopyFile more.now
-        (record (on_name bucket file.now) { source = Some (numbers source) }))
+        (judged_on name more.now
+        (record (on_name bucket file.now) { source = Some (numbers source.now) }))
         (caller asker.now)
         (standing (absent_beside kinds.NoBucket kinds.NoFile (bucket_at core.now bucket))
-        (both (bucket_at core.now bucket) (version_at core.now source.bucket source.num)))) }
+        (both (bucket_at core.now bucket) (version_at core.now source.now.bucket source.now.num)))) }
     ensures found { IfOk result (λ p. both (bucket_at core.now bucket)
-        (version_at core.now source.bucket source.num) ≡ Some (p.0.now, p.1.now)) }
+        (version_at core.now source.now.bucket source.now.num) ≡ Some (p.0.now, p.1.now)) }
 {
     let asked = Asked {
-        need: need_of(CallName::CopyFile),
+        need: need_of(name),
         more,
-        fields: copy_fields(source, bucket, file),
+        fields: copy_fields(*source, bucket, file),
     };
-    may_call(core, asker, &asked, t)?;
-    let Some(bucket) = core.bucket(bucket) else {
-        return Err(FaultKind::NoBucket);
-    };
-    let Some(version) = core.version(source.bucket, source.num) else {
-        return Err(FaultKind::NoFile);
-    };
-    may_name(core, asker, &asked)?;
-    Ok((bucket, version))
+    allowed_pair(core, asker, &asked, t, bucket, source)
+}
+
+// Two files, or the first rule of the policy that refuses them, before whose last stands that there
+// are such files.
+fn allowed_files<'a>(
+    core: &'a Core,
+    asker: &Asker<'_>,
+    asked: &Asked<'_>,
+    t: Moment,
+    source: &VersionId,
+    bucket: BucketNum,
+    file: VersionNum,
+) -> Result<(&'a Version, &'a Version), FaultKind>
+    ensures rules { refused plain result ≡ first_fault
+        (rules_on core.now t (judged asked.now) (caller asker.now) (standing kinds.NoFile
+        (both (version_at core.now source.now.bucket source.now.num)
+        (version_at core.now bucket file)))) }
+    ensures found { IfOk result (λ p. both (version_at core.now source.now.bucket source.now.num)
+        (version_at core.now bucket file) ≡ Some (p.0.now, p.1.now)) }
+{
+    may_call(core, asker, asked, t)?;
+    let found = core.version(source.bucket, source.num);
+    let version = found.ok_or(FaultKind::NoFile)?;
+    let found = core.version(bucket, file);
+    let large = found.ok_or(FaultKind::NoFile)?;
+    may_name(core, asker, asked)?;
+    Ok((version, large))
 }
 
 /// The source and the large file of a copy that makes a part, or the first rule of the policy that
@@ -285,30 +346,23 @@ pub fn part_copy_for<'a>(
     core: &'a Core,
     asker: &Asker<'_>,
     t: Moment,
-    source: VersionId,
+    name: CallName,
+    source: &VersionId,
     bucket: BucketNum,
     file: VersionNum,
 ) -> Result<(&'a Version, &'a Version), FaultKind>
     ensures rules { refused plain result ≡ first_fault (rules_on core.now t
-        (judged_on names.CopyPart []
-        (record (on_file bucket file) { source = Some (numbers source) }))
+        (judged_on name []
+        (record (on_file bucket file) { source = Some (numbers source.now) }))
         (caller asker.now) (standing kinds.NoFile
-        (both (version_at core.now source.bucket source.num) (version_at core.now bucket file)))) }
-    ensures found { IfOk result (λ p. both (version_at core.now source.bucket source.num)
+        (both (version_at core.now source.now.bucket source.now.num) (version_at core.now bucket file)))) }
+    ensures found { IfOk result (λ p. both (version_at core.now source.now.bucket source.now.num)
         (version_at core.now bucket file) ≡ Some (p.0.now, p.1.now)) }
 {
     let asked = Asked {
-        need: need_of(CallName::CopyPart),
+        need: need_of(name),
         more: &[],
-        fields: part_copy_fields(source, bucket, file),
+        fields: part_copy_fields(*source, bucket, file),
     };
-    may_call(core, asker, &asked, t)?;
-    let Some(version) = core.version(source.bucket, source.num) else {
-        return Err(FaultKind::NoFile);
-    };
-    let Some(large) = core.version(bucket, file) else {
-        return Err(FaultKind::NoFile);
-    };
-    may_name(core, asker, &asked)?;
-    Ok((version, large))
+    allowed_files(core, asker, &asked, t, source, bucket, file)
 }
