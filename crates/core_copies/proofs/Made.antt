@@ -24,6 +24,7 @@ use Rattle.core_copies.specs.Copied.{IsAllowed, IsCopyDecision, Makes}
 pub decided_anyway : (M : State Extent) (t : ℕ) (token : Option (List ℕ)) (c : Call) (source : VersionId) (range : Option ByteRange) (bytes : CopiedBytes) (d : Decision)
     → IsDecision M t token c d → IsCopyDecision M t token c source range bytes d
 unfolding IsDecision
+
 unfolding IsCopyDecision
 decided_anyway M t token c source range bytes d is = λ copy words makes. is copy words
 

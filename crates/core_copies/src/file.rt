@@ -24,7 +24,7 @@ use core_decisions::{Decision, plain_refusal};
 use core_files::{locked_caps, show_made};
 use core_policy::{asker_of, copy_for};
 use core_state::Core;
-use rule_table::Cap;
+use rule_table::{CallName, Cap};
 use shown_values::content_length;
 use std::alloc::Global;
 
@@ -90,7 +90,17 @@ pub fn check_file_copy(
     let asker = asker_of(core, token);
     let target = target_of(call);
     let more = more_for(call);
-    let found = match copy_for(core, &asker, t, more, call.source, target, &call.name) {
+    let name = CallName::CopyFile;
+    let found = match copy_for(
+        core,
+        &asker,
+        t,
+        name,
+        more,
+        &call.source,
+        target,
+        &call.name,
+    ) {
         Ok(found) => found,
         Err(kind) => return Err(Or::Fault(Fault::plain(kind))),
     };
@@ -114,7 +124,17 @@ pub fn end_file_copy(
     let asker = asker_of(core, token);
     let target = target_of(call);
     let more = more_for(call);
-    let found = match copy_for(core, &asker, t, more, call.source, target, &call.name) {
+    let name = CallName::CopyFile;
+    let found = match copy_for(
+        core,
+        &asker,
+        t,
+        name,
+        more,
+        &call.source,
+        target,
+        &call.name,
+    ) {
         Ok(found) => found,
         Err(kind) => return Ok(plain_refusal(kind)),
     };

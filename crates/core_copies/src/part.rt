@@ -22,6 +22,7 @@ use copy_calls::{CopiedBytes, copy_part, fault_of, may_copy_part};
 use core_decisions::{Decision, plain_refusal};
 use core_policy::{asker_of, part_copy_for};
 use core_state::Core;
+use rule_table::CallName;
 use shown_values::{content_length, show_part};
 use std::alloc::Global;
 
@@ -69,7 +70,8 @@ pub fn check_part_copy(
     ensures plan { IfOk result (IsPlanOf core.now call.now.source call.now.range) }
 {
     let asker = asker_of(core, token);
-    let found = match part_copy_for(core, &asker, t, call.source, call.bucket, call.file) {
+    let name = CallName::CopyPart;
+    let found = match part_copy_for(core, &asker, t, name, &call.source, call.bucket, call.file) {
         Ok(found) => found,
         Err(kind) => return Err(Or::Fault(Fault::plain(kind))),
     };
@@ -110,7 +112,8 @@ pub fn end_part_copy(
         (calls.CopyPart call.now) call.now.source call.now.range bytes.now) }
 {
     let asker = asker_of(core, token);
-    let found = match part_copy_for(core, &asker, t, call.source, call.bucket, call.file) {
+    let name = CallName::CopyPart;
+    let found = match part_copy_for(core, &asker, t, name, &call.source, call.bucket, call.file) {
         Ok(found) => found,
         Err(kind) => return Ok(plain_refusal(kind)),
     };

@@ -39,7 +39,7 @@ abbrev pub policy_on : {X : Type 0} (M : State Extent) (t : ℕ) (token : Option
 policy_on M t token c who form = rules_on M t (judged_call c) who (standing form.absent form.thing)
 
 -- all that may refuse it
-abbrev own_of : {X : Type 0} (M : State Extent) (t : ℕ) (token : Option (List ℕ)) (c : Call) → Form M t token c X → Copies → List ℕ → List Check
+abbrev pub own_of : {X : Type 0} (M : State Extent) (t : ℕ) (token : Option (List ℕ)) (c : Call) → Form M t token c X → Copies → List ℕ → List Check
 own_of M t token c form copy words = (or_absent form.absent (form.plan copy words) form.thing).own
 
 pub rules_are : {X : Type 0} (M : State Extent) (t : ℕ) (token : Option (List ℕ)) (c : Call) (form : Form M t token c X) (who : Caller) (copy : Copies) (words : List ℕ) → who ≡ caller_of M token

@@ -1,5 +1,5 @@
 -- What downloads come to.
-use Rattle.std.proofs.Common.{◌≡◌, ℕ, Bool, true, false, if◌then◌else◌, List, [], ◌∷◌, ◌++◌, Option, Some, None, refl, ap, ◌∙◌}
+use Rattle.std.proofs.Common.{◌≡◌, ℕ, Bool, true, false, if◌then◌else◌, List, [], ◌++◌, Option, Some, None, refl, ap, ◌∙◌}
 use Rattle.b2_base.specs.declared.extent.Extent.{Extent}
 use Rattle.rule_table.specs.declared.fault.FaultKind.TheVariants.{NoFile}
 use Rattle.b2_types.specs.declared.bucket.Bucket.{Bucket}
@@ -10,7 +10,7 @@ use Rattle.b2_types.specs.declared.call.DownloadById.{DownloadById}
 use Rattle.b2_types.specs.declared.call.DownloadByName.{DownloadByName}
 use Rattle.b2_types.specs.declared.key.Key.{Key}
 use Rattle.b2_types.specs.declared.version.VersionOf.{VersionOf}
-use Rattle.b2_model.specs.Ask.{first_rules, is_open}
+use Rattle.b2_model.specs.Ask.{first_rules}
 use Rattle.b2_model.specs.AskDownloads.{content, download_by_id, download_by_name, or_refused}
 use Rattle.b2_model.specs.Checks.{Check, first_fault, some_and}
 use Rattle.b2_model.specs.Current.{current}
@@ -25,13 +25,13 @@ use Rattle.core_decisions.proofs.Forms.{Form}
 use Rattle.core_files.specs.Replied.{replied}
 use Rattle.core_files.proofs.Answered.{replied_is}
 
--- by whose key it is shown, where the bucket is public or not
+-- by whose key it is shown, for anybody or for who asks
 abbrev key_when : State Extent → Option (List ℕ) → Bool → Option Key
-key_when M token open = if open then None else (caller_of M token).key
+key_when M token anybody = if anybody then None else (caller_of M token).key
 
 -- all refusals of a plan
 abbrev refusals_when : State Extent → ℕ → Option (List ℕ) → Call → (Bool → Plan Extent) → Bool → List Check
-refusals_when M t token c plan open = (if open then (plan open).exists else first_rules M t (caller_of M token) c (plan open).exists) ++ (plan open).own
+refusals_when M t token c plan anybody = (if anybody then (plan anybody).exists else first_rules M t (caller_of M token) c (plan anybody).exists) ++ (plan anybody).own
 
 -- ---- what is shown of a version that may be missing
 
@@ -42,7 +42,7 @@ pub it_answers : (M : State Extent) (key : Option Key) (range : Option ByteRange
 it_answers M key range None = refl
 it_answers M key range (Some v) = refl
 
-quiet_of : (M : State Extent) (key : Option Key) (range : Option ByteRange) (v : Option (VersionOf Extent)) → (may_miss M key range v).exists ≡ []
+pub quiet_of : (M : State Extent) (key : Option Key) (range : Option ByteRange) (v : Option (VersionOf Extent)) → (may_miss M key range v).exists ≡ []
 quiet_of M key range None = refl
 quiet_of M key range (Some v) = refl
 
@@ -59,7 +59,7 @@ one_plan M key range (Some v) none = refl
 -- ---- by id
 
 abbrev plan_by_id : State Extent → Option (List ℕ) → DownloadById → Bool → Plan Extent
-plan_by_id M token c open = download_by_id extent_len M (key_when M token open) c
+plan_by_id M token c anybody = download_by_id extent_len M (key_when M token anybody) c
 
 abbrev pub id_form : (M : State Extent) (t : ℕ) (token : Option (List ℕ)) (c : DownloadById) → some_and (λ b. b.public) (bucket_at M c.bucket) ≡ false → Form M t token (call.DownloadFileById c) (VersionOf Extent)
 id_form M t token c closed = record {
@@ -73,16 +73,16 @@ id_form M t token c closed = record {
 
 pub open_id : (M : State Extent) (t : ℕ) (token : Option (List ℕ)) (c : DownloadById) (d : Decision) → some_and (λ b. b.public) (bucket_at M c.bucket) ≡ true
     → d ≡ replied (may_miss M None c.range (version_at M c.bucket c.file)) → IsDecision M t token (call.DownloadFileById c) d
-open_id M t token c d open is =
+open_id M t token c d anybody is =
     let v = version_at M c.bucket c.file in
     replied_is M t token (call.DownloadFileById c) (may_miss M None c.range v).own (may_miss M None c.range v).answer d is
-    (λ copy words. ap (λ o. first_fault (refusals_when M t token (call.DownloadFileById c) (plan_by_id M token c) o)) open ∙ one_fault M None c.range v)
-    (λ none copy words. ap (plan_by_id M token c) open ∙ one_plan M None c.range v none)
+    (λ copy words. ap (λ o. first_fault (refusals_when M t token (call.DownloadFileById c) (plan_by_id M token c) o)) anybody ∙ one_fault M None c.range v)
+    (λ none copy words. ap (plan_by_id M token c) anybody ∙ one_plan M None c.range v none)
 
 -- ---- by name
 
 abbrev plan_by_name : State Extent → Option (List ℕ) → DownloadByName → Bool → Plan Extent
-plan_by_name M token c open = download_by_name extent_len M (key_when M token open) c
+plan_by_name M token c anybody = download_by_name extent_len M (key_when M token anybody) c
 
 abbrev pub name_form : (M : State Extent) (t : ℕ) (token : Option (List ℕ)) (c : DownloadByName) → some_and (λ b. b.public) (bucket_named M c.bucket) ≡ false → Form M t token (call.DownloadFileByName c) Bucket
 name_form M t token c closed = record {
@@ -98,11 +98,11 @@ pub open_name : (M : State Extent) (t : ℕ) (token : Option (List ℕ)) (c : Do
     → d ≡ replied (may_miss M None c.range (current M b.num c.name)) → IsDecision M t token (call.DownloadFileByName c) d
 open_name M t token c b d found public is =
     let p = may_miss M None c.range (current M b.num c.name) in
-    let open : some_and (λ b. b.public) (bucket_named M c.bucket) ≡ true = ap (some_and (λ b. b.public)) found ∙ public in
+    let anybody : some_and (λ b. b.public) (bucket_named M c.bucket) ≡ true = ap (some_and (λ b. b.public)) found ∙ public in
     let plan = λ (o : Option Bucket). or_absent NoFile (λ b. may_miss M None c.range (current M b.num c.name)) o in
     replied_is M t token (call.DownloadFileByName c) p.own p.answer d is
     (λ copy words.
-    ap (λ o. first_fault (refusals_when M t token (call.DownloadFileByName c) (plan_by_name M token c) o)) open
+    ap (λ o. first_fault (refusals_when M t token (call.DownloadFileByName c) (plan_by_name M token c) o)) anybody
     ∙ ap (λ o. first_fault ((plan o).exists ++ (plan o).own)) found
     ∙ ap (λ e. first_fault (e ++ p.own)) (quiet_of M None c.range (current M b.num c.name)))
-    (λ none copy words. ap (plan_by_name M token c) open ∙ ap plan found ∙ it_answers M None c.range (current M b.num c.name))
+    (λ none copy words. ap (plan_by_name M token c) anybody ∙ ap plan found ∙ it_answers M None c.range (current M b.num c.name))

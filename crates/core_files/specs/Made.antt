@@ -1,5 +1,5 @@
 -- The version that a record makes.
-use Rattle.std.specs.Prelude.{ℕ, List, [], ◌∷◌, Option, Some, None}
+use Rattle.std.specs.Prelude.{ℕ, [], ◌∷◌, Option, Some, None}
 use Rattle.b2_base.specs.declared.extent.Extent.{Extent}
 use Rattle.b2_types.specs.declared.kinds.Action.TheVariants as action
 use Rattle.b2_types.specs.declared.kinds.Mark.TheVariants as mark

@@ -17,9 +17,10 @@ ghost use Rattle.new_versions.specs.Decided.{extent_len};
 ghost use Rattle.core_decisions.specs.Decided.{IsDecision};
 ghost use Rattle.core_files.specs.Replied.{replied};
 
-use b2_base::{BucketNum, List, Memory, Moment, Settings};
+use b2_base::{BucketNum, List, Memory, Moment, Settings, Text};
 use b2_types::{
-    Action, AnswerOf, Bucket, ByteRange, ContentOf, DownloadById, DownloadByName, Key, Span, Version,
+    Action, AnswerOf, Bucket, ByteRange, ContentOf, DownloadById, DownloadByName, Key, Span,
+    Version,
 };
 use copy_calls::{misses, span_of};
 use core_decisions::{Decision, plain_refusal};
@@ -159,12 +160,12 @@ pub fn download_by_id(
 }
 
 // The bucket of this name, where it is public.
-fn public_named<'a>(core: &'a Core, name: &[u8]) -> Option<&'a Bucket>
+fn public_named<'a>(core: &'a Core, name: &Text) -> Option<&'a Bucket>
     ensures { MatchOption result
         (some_and (λ b. b.public) (bucket_named core.now name.now) ≡ false)
         (λ b. (bucket_named core.now name.now ≡ Some b.now) × (b.now.public ≡ true)) }
 {
-    let bucket = core.bucket_named(name)?;
+    let bucket = core.bucket_named(name.get().as_bytes())?;
     if bucket.public { Some(bucket) } else { None }
 }
 
@@ -179,11 +180,12 @@ pub fn download_by_name(
     ensures { IfOk result (IsDecision core.now t (option_copied token.entry)
         (calls.DownloadFileByName call.now)) }
 {
-    if let Some(bucket) = public_named(core, call.bucket.get().as_bytes()) {
+    if let Some(bucket) = public_named(core, &call.bucket) {
         return serve_current(alloc, core, None, bucket.num, call);
     }
     let asker = asker_of(core, token);
-    let bucket = match path_for(core, &asker, t, &call.bucket, &call.name) {
+    let name = CallName::DownloadFileByName;
+    let bucket = match path_for(core, &asker, t, name, &call.bucket, &call.name) {
         Ok(bucket) => bucket,
         Err(kind) => return Ok(plain_refusal(kind)),
     };

@@ -52,12 +52,7 @@ pub fn version_of(
 }
 
 /// The marker that hides the name.
-pub fn marker_of(
-    alloc: Global,
-    t: Moment,
-    id: VersionId,
-    name: FileName,
-) -> Result<Version, Memory>
+pub fn marker_of(alloc: Global, t: Moment, id: VersionId, name: FileName) -> Result<Version, Memory>
     ensures { IfOk result (λ v. v ≡ marker id.bucket id.num name t) }
 {
     Ok(Version {

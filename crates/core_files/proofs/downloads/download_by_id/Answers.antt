@@ -21,9 +21,9 @@ returns-then-is_public c =
     let M = c.args.core.now in
     let q = c.args.call.now in
     let token = option_copied c.args.token in
-    let open = ap (some_and (λ b. b.public)) (sym c.bucket.ensures) ∙ sym c.is_public.ensures ∙ c.if-is_public.true in
+    let public = ap (some_and (λ b. b.public)) (sym c.bucket.ensures) ∙ sym c.is_public.ensures ∙ c.if-is_public.true in
     IfOk-weaker c.open_by_id.result (λ d. d ≡ replied (may_miss M None q.range (version_at M q.bucket q.file))) (IsDecision M c.args.t token (calls.DownloadFileById q))
-    (λ d is. open_id M c.args.t token q d open is) c.open_by_id.ensures
+    (λ d is. open_id M c.args.t token q d public is) c.open_by_id.ensures
 
 pub returns-in-Err : goal.returns-in-Err
 returns-in-Err c =

@@ -1,4 +1,4 @@
-use Rattle.std.proofs.Common.{◌≡◌, None, sym, ap, ◌∙◌}
+use Rattle.std.proofs.Common.{◌≡◌, None, ap, ◌∙◌}
 use Rattle.std.proofs.lemmas.Result.{IfOk-weaker}
 use Rattle.std.specs.Option.{option_copied}
 use Rattle.b2_types.specs.Fault.{plain}
@@ -38,8 +38,8 @@ returns c =
     let b = c.in-Ok.bucket.now in
     let v = current M b.num q.name in
     let p = may_miss M (caller_of M token).key q.range v in
-    IfOk-weaker c.serve_current.result (λ d. d ≡ replied (may_miss M (option_copied c.asker_of-asker.result.key) q.range v)) (IsDecision M c.args.t token (calls.DownloadFileByName q))
+    IfOk-weaker c.serve_current-2.result (λ d. d ≡ replied (may_miss M (option_copied c.asker_of-asker.result.key) q.range v)) (IsDecision M c.args.t token (calls.DownloadFileByName q))
     (λ d is. replied_for M c.args.t token (calls.DownloadFileByName q) (name_form M c.args.t token q c.in_default.ensures) (caller c.asker_of-asker.result)
     b p.own p.answer d c.asker_of-asker.ensures (is ∙ ap (λ w. replied (may_miss M w.key q.range v)) c.asker_of-asker.ensures) c.in-Ok.ensures.rules c.in-Ok.ensures.found
     (λ copy words. it_answers M (caller_of M token).key q.range v))
-    c.serve_current.ensures
+    c.serve_current-2.ensures

@@ -1,4 +1,4 @@
-use Rattle.std.proofs.Common.{◌≡◌, sym, ap, ◌∙◌}
+use Rattle.std.proofs.Common.{sym, ap, ◌∙◌}
 use Rattle.std.specs.Option.{option_copied}
 use Rattle.b2_types.specs.Fault.{plain}
 use Rattle.b2_types.specs.declared.answer.AnswerOf.TheVariants as answer
