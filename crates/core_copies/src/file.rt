@@ -1,6 +1,6 @@
 //! Copies that make a file.
 
-ghost use Rattle.std.specs.Prelude.{◌≡◌, ◌×◌, None, Some, IfOk, Option as TheOption, unwrap_or};
+ghost use Rattle.std.specs.Prelude.{◌≡◌, None, Some, IfOk, Option as TheOption, unwrap_or};
 ghost use Rattle.std.specs.Option.{option_copied};
 ghost use Rattle.b2_base.specs.Failure.{IfFault};
 ghost use Rattle.b2_types.specs.declared.answer.AnswerOf.TheVariants as answer;
