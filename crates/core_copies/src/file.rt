@@ -73,7 +73,7 @@ fn judged(
     }
 }
 
-/// What a copy to a file takes, or the first rule that refuses it.
+/// What a copy to a file takes, or the first rule that refuses it (the B2 reference, b2_copy_file).
 pub fn check_file_copy(
     alloc: Global,
     core: &Core,
@@ -109,7 +109,8 @@ pub fn check_file_copy(
     Ok(copied)
 }
 
-/// What a copy to a file comes to whose bytes are these.
+/// What a copy to a file comes to whose bytes are these. It is judged again, so that nothing need be
+/// kept of the check.
 pub fn end_file_copy(
     alloc: Global,
     core: &Core,

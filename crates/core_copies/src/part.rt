@@ -55,7 +55,7 @@ fn judged(
     }
 }
 
-/// What a copy to a part takes, or the first rule that refuses it.
+/// What a copy to a part takes, or the first rule that refuses it (the B2 reference, b2_copy_part).
 pub fn check_part_copy(
     alloc: Global,
     core: &Core,
@@ -100,7 +100,8 @@ fn show_copied(large: &Version, t: Moment, call: &CopyPart, bytes: &CopiedBytes)
     show_part(large.bucket, large.num, &part)
 }
 
-/// What a copy to a part comes to whose bytes are these.
+/// What a copy to a part comes to whose bytes are these. It is judged again, so that nothing need be
+/// kept of the check.
 pub fn end_part_copy(
     core: &Core,
     t: Moment,

@@ -136,7 +136,7 @@ fn open_by_id(alloc: Global, core: &Core, call: &DownloadById) -> Result<Decisio
     }
 }
 
-/// Downloads a file, or a range of it, by its id.
+/// Downloads a file, or a range of it, by its id (the B2 reference, b2_download_file_by_id).
 pub fn download_by_id(
     alloc: Global,
     core: &Core,
@@ -169,7 +169,8 @@ fn public_named<'a>(core: &'a Core, name: &Text) -> Option<&'a Bucket>
     if bucket.public { Some(bucket) } else { None }
 }
 
-/// Downloads the current version of a file, or a range of it, by its name.
+/// Downloads the current version of a file, or a range of it, by its name (the B2 reference,
+/// b2_download_file_by_name).
 pub fn download_by_name(
     alloc: Global,
     core: &Core,

@@ -49,7 +49,7 @@ fn not_hidden(error: Or<HideRefusal>) -> Result<Decision, Memory>
     }
 }
 
-/// Hides a name by a marker.
+/// Hides a name by a marker (the B2 reference, b2_hide_file).
 pub fn hide_file(
     alloc: Global,
     core: &Core,

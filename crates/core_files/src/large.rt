@@ -55,7 +55,7 @@ fn not_started(error: Or<VersionRefusal>) -> Result<Decision, Memory>
     }
 }
 
-/// Starts a large file.
+/// Starts a large file (the B2 reference, b2_start_large_file).
 pub fn start_file(
     alloc: Global,
     core: &Core,
@@ -91,7 +91,7 @@ fn default_of(core: &Core, bucket: BucketNum) -> Option<DefaultRetention>
     }
 }
 
-/// Makes the file of the parts of a large file.
+/// Makes the file of the parts of a large file (the B2 reference, b2_finish_large_file).
 pub fn finish_file(
     alloc: Global,
     core: &Core,
