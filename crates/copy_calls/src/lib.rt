@@ -12,4 +12,4 @@ pub use file::{CopiedBytes, FilePlan, copy_file, copy_upload, may_copy_file};
 pub use laws::copies_are_uploads;
 pub use part::{copy_part, may_copy_part};
 pub use refusal::{CopyRefusal, fault_of};
-pub use span::copy_span;
+pub use span::{copy_span, misses, span_of};

@@ -15,8 +15,8 @@ use b2_types::{Action, ByteRange, Span, Version};
 /// The most bytes of a copy, as of any upload.
 const MOST_COPIED: u64 = 5_000_000_000;
 
-// Whether the range has no byte of a content of this length.
-fn misses(len: u64, range: ByteRange) -> bool
+/// Whether the range has no byte of a content of this length.
+pub fn misses(len: u64, range: ByteRange) -> bool
     ensures { result ≡ misses len range }
 {
     match range {
@@ -25,8 +25,8 @@ fn misses(len: u64, range: ByteRange) -> bool
     }
 }
 
-// The bytes of the range, of a content of this length.
-fn span_of(len: u64, range: ByteRange) -> Span
+/// The bytes of the range, of a content of this length.
+pub fn span_of(len: u64, range: ByteRange) -> Span
     ensures { result ≡ span_of len range }
 {
     match range {

@@ -64,7 +64,7 @@ refused_by M t token c form who fault d asks refused passes is = subst (IsDecisi
     ∙ sym (by_next (policy_on M t token c who form) (own_of M t token c form copy words) passes)
     ∙ sym (is copy words)))
 
-nothing_refuses : {X : Type 0} (M : State Extent) (t : ℕ) (token : Option (List ℕ)) (c : Call) (form : Form M t token c X) (who : Caller) (copy : Copies) (words : List ℕ) → who ≡ caller_of M token
+pub nothing_refuses : {X : Type 0} (M : State Extent) (t : ℕ) (token : Option (List ℕ)) (c : Call) (form : Form M t token c X) (who : Caller) (copy : Copies) (words : List ℕ) → who ≡ caller_of M token
     → None ≡ first_fault (policy_on M t token c who form) → None ≡ first_fault (own_of M t token c form copy words) → first_fault (refusals_of (at_extents copy) M t words token c) ≡ None
 nothing_refuses M t token c form who copy words asks passes own =
     ap first_fault (rules_are M t token c form who copy words asks)

@@ -29,3 +29,14 @@ all_stand M buckets = check NoBucket (list_any (λ n. is_none (bucket_at M n)) b
 -- the rules of the policy, before whose last stands that what is named is there
 abbrev pub rules_on : State Extent → ℕ → Judged → Caller → List Check → List Check
 rules_on M t j who exists = policy_rules M t j (λ g. true) who exists
+
+-- what is looked up beside a bucket that need not stand
+abbrev pub absent_beside : {X : Type 0} → FaultKind → FaultKind → Option X → FaultKind
+absent_beside kind other None = kind
+absent_beside kind other (Some x) = other
+
+-- two things, where both stand
+abbrev pub both : {X Y : Type 0} → Option X → Option Y → Option (X × Y)
+both None y = None
+both (Some x) None = None
+both (Some x) (Some y) = Some (x, y)

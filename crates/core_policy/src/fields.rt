@@ -4,7 +4,7 @@ ghost use Rattle.std.specs.Prelude.{◌≡◌, Some, map};
 ghost use Rattle.std.specs.Option.{option_copied};
 ghost use Rattle.b2_types.specs.declared.call.Call.TheVariants as calls;
 ghost use Rattle.b2_types.specs.Naming.{fields_of, in_bucket, nothing, of_number, on_account, on_file, on_name, with_prefix};
-ghost use Rattle.policy_rules.specs.Asked.{named};
+ghost use Rattle.policy_rules.specs.Asked.{named, numbers};
 
 use b2_base::{BucketNum, Text, VersionNum};
 use b2_types::{ListBuckets, VersionId};
@@ -97,5 +97,43 @@ pub(crate) fn filter_fields<'a>(call: &'a ListBuckets) -> Fields<'a>
     };
     let mut fields = account_fields(&call.account, None);
     fields.some_bucket = Some(SomeBucket::Filter(call.bucket, name));
+    fields
+}
+
+/// Those of a call on a name in the bucket of a path.
+pub(crate) fn path_fields<'a>(bucket: &'a Text, name: &'a FileName) -> Fields<'a>
+    ensures { named result
+        ≡ record nothing { path_bucket = Some bucket.now; name = Some name.now } }
+{
+    let mut fields = no_fields();
+    fields.path_bucket = Some(bucket.get().as_bytes());
+    fields.name = Some(name.get().as_bytes());
+    fields
+}
+
+/// Those of a copy to a name in a bucket.
+pub(crate) fn copy_fields<'a>(
+    source: VersionId,
+    bucket: BucketNum,
+    name: &'a FileName,
+) -> Fields<'a>
+    ensures { named result
+        ≡ record (on_name bucket name.now) { source = Some (numbers source) } }
+{
+    let mut fields = name_fields(bucket, name);
+    fields.source = Some(source);
+    fields
+}
+
+/// Those of a copy to a large file.
+pub(crate) fn part_copy_fields<'a>(
+    source: VersionId,
+    bucket: BucketNum,
+    file: VersionNum,
+) -> Fields<'a>
+    ensures { named result ≡ record (on_file bucket file) { source = Some (numbers source) } }
+{
+    let mut fields = file_fields(bucket, file);
+    fields.source = Some(source);
     fields
 }

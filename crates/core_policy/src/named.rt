@@ -8,19 +8,20 @@ ghost use Rattle.b2_types.specs.Fault.{plain};
 ghost use Rattle.b2_types.specs.declared.call.Call.TheVariants as calls;
 ghost use Rattle.b2_types.specs.Naming.{fields_of, in_bucket, nothing, of_number, on_account, on_file, on_name, with_prefix};
 ghost use Rattle.b2_model.specs.Checks.{first_fault};
+ghost use Rattle.b2_model.specs.Policy.{bucket_named};
 ghost use Rattle.b2_model.specs.Rows.{version_at};
 ghost use Rattle.b2_model.specs.State.{bucket_at};
 ghost use Rattle.new_versions.specs.Decided.{refused};
-ghost use Rattle.policy_rules.specs.Asked.{caller, judged};
-ghost use Rattle.core_policy.specs.Rules.{all_stand, judged_on, rules_on, standing};
+ghost use Rattle.policy_rules.specs.Asked.{caller, judged, numbers};
+ghost use Rattle.core_policy.specs.Rules.{absent_beside, all_stand, both, judged_on, rules_on, standing};
 
 use crate::fields::{
-    account_fields, bucket_fields, buckets_fields, file_fields, filter_fields, name_fields, no_fields,
-    prefix_fields,
+    account_fields, bucket_fields, buckets_fields, copy_fields, file_fields, filter_fields,
+    name_fields, no_fields, part_copy_fields, path_fields, prefix_fields,
 };
 use crate::judge::{may_call, may_name};
 use b2_base::{BucketNum, Moment, Text, VersionNum};
-use b2_types::{Bucket, ListBuckets, Version, need_of};
+use b2_types::{Bucket, ListBuckets, Version, VersionId, need_of};
 use core_state::Core;
 use name_rules::FileName;
 use policy_rules::{Asked, Asker};
@@ -300,4 +301,157 @@ pub fn buckets_for(
         fields: buckets_fields(account, buckets),
     };
     allowed_buckets(core, asker, &asked, t, buckets)
+}
+
+// The bucket of this name, or the first rule of the policy that refuses it, before whose last stands
+// that there is such a bucket.
+fn allowed_path<'a>(
+    core: &'a Core,
+    asker: &Asker<'_>,
+    asked: &Asked<'_>,
+    t: Moment,
+    bucket: &Text,
+) -> Result<&'a Bucket, FaultKind>
+    ensures rules { refused plain result ≡ first_fault
+        (rules_on core.now t (judged asked.now) (caller asker.now)
+        (standing kinds.NoFile (bucket_named core.now bucket.now))) }
+    ensures found { IfOk result (λ b. bucket_named core.now bucket.now ≡ Some b.now) }
+{
+    may_call(core, asker, asked, t)?;
+    let found = core.bucket_named(bucket.get().as_bytes());
+    let bucket = found.ok_or(FaultKind::NoFile)?;
+    may_name(core, asker, asked)?;
+    Ok(bucket)
+}
+
+/// The bucket of a download by name, or the first rule of the policy that refuses it, before whose
+/// last stands that there is a bucket of the name.
+pub fn path_for<'a>(
+    core: &'a Core,
+    asker: &Asker<'_>,
+    t: Moment,
+    name: CallName,
+    bucket: &Text,
+    file: &FileName,
+) -> Result<&'a Bucket, FaultKind>
+    ensures rules { refused plain result ≡ first_fault (rules_on core.now t
+        (judged_on name []
+        (record nothing { path_bucket = Some bucket.now; name = Some file.now }))
+        (caller asker.now) (standing kinds.NoFile (bucket_named core.now bucket.now))) }
+    ensures found { IfOk result (λ b. bucket_named core.now bucket.now ≡ Some b.now) }
+{
+    let asked = Asked {
+        need: need_of(name),
+        more: &[],
+        fields: path_fields(bucket, file),
+    };
+    allowed_path(core, asker, &asked, t, bucket)
+}
+
+// A bucket and a file, or the first rule of the policy that refuses them, before whose last stands
+// that there is such a bucket, and then that there is such a file.
+fn allowed_pair<'a>(
+    core: &'a Core,
+    asker: &Asker<'_>,
+    asked: &Asked<'_>,
+    t: Moment,
+    bucket: BucketNum,
+    source: &VersionId,
+) -> Result<(&'a Bucket, &'a Version), FaultKind>
+    ensures rules { refused plain result ≡ first_fault
+        (rules_on core.now t (judged asked.now) (caller asker.now)
+        (standing (absent_beside kinds.NoBucket kinds.NoFile (bucket_at core.now bucket))
+        (both (bucket_at core.now bucket) (version_at core.now source.now.bucket source.now.num)))) }
+    ensures found { IfOk result (λ p. both (bucket_at core.now bucket)
+        (version_at core.now source.now.bucket source.now.num) ≡ Some (p.0.now, p.1.now)) }
+{
+    may_call(core, asker, asked, t)?;
+    let bucket = core.bucket(bucket).ok_or(FaultKind::NoBucket)?;
+    let found = core.version(source.bucket, source.num);
+    let version = found.ok_or(FaultKind::NoFile)?;
+    may_name(core, asker, asked)?;
+    Ok((bucket, version))
+}
+
+/// The bucket that a file is copied to and the source, or the first rule of the policy that refuses
+/// it, before whose last stands that there is such a bucket, and then that there is such a source.
+pub fn copy_for<'a, 'b>(
+    core: &'a Core,
+    asker: &Asker<'_>,
+    t: Moment,
+    name: CallName,
+    more: &'b [Cap],
+    source: &VersionId,
+    bucket: BucketNum,
+    file: &'b FileName,
+) -> Result<(&'a Bucket, &'a Version), FaultKind>
+    ensures rules { refused plain result ≡ first_fault (rules_on core.now t
+        (judged_on name more.now
+        (record (on_name bucket file.now) { source = Some (numbers source.now) }))
+        (caller asker.now)
+        (standing (absent_beside kinds.NoBucket kinds.NoFile (bucket_at core.now bucket))
+        (both (bucket_at core.now bucket) (version_at core.now source.now.bucket source.now.num)))) }
+    ensures found { IfOk result (λ p. both (bucket_at core.now bucket)
+        (version_at core.now source.now.bucket source.now.num) ≡ Some (p.0.now, p.1.now)) }
+{
+    let asked = Asked {
+        need: need_of(name),
+        more,
+        fields: copy_fields(*source, bucket, file),
+    };
+    allowed_pair(core, asker, &asked, t, bucket, source)
+}
+
+// Two files, or the first rule of the policy that refuses them, before whose last stands that there
+// are such files.
+fn allowed_files<'a>(
+    core: &'a Core,
+    asker: &Asker<'_>,
+    asked: &Asked<'_>,
+    t: Moment,
+    source: &VersionId,
+    bucket: BucketNum,
+    file: VersionNum,
+) -> Result<(&'a Version, &'a Version), FaultKind>
+    ensures rules { refused plain result ≡ first_fault
+        (rules_on core.now t (judged asked.now) (caller asker.now) (standing kinds.NoFile
+        (both (version_at core.now source.now.bucket source.now.num)
+        (version_at core.now bucket file)))) }
+    ensures found { IfOk result (λ p. both (version_at core.now source.now.bucket source.now.num)
+        (version_at core.now bucket file) ≡ Some (p.0.now, p.1.now)) }
+{
+    may_call(core, asker, asked, t)?;
+    let found = core.version(source.bucket, source.num);
+    let version = found.ok_or(FaultKind::NoFile)?;
+    let found = core.version(bucket, file);
+    let large = found.ok_or(FaultKind::NoFile)?;
+    may_name(core, asker, asked)?;
+    Ok((version, large))
+}
+
+/// The source and the large file of a copy that makes a part, or the first rule of the policy that
+/// refuses it, before whose last stands that there are such files.
+pub fn part_copy_for<'a>(
+    core: &'a Core,
+    asker: &Asker<'_>,
+    t: Moment,
+    name: CallName,
+    source: &VersionId,
+    bucket: BucketNum,
+    file: VersionNum,
+) -> Result<(&'a Version, &'a Version), FaultKind>
+    ensures rules { refused plain result ≡ first_fault (rules_on core.now t
+        (judged_on name []
+        (record (on_file bucket file) { source = Some (numbers source.now) }))
+        (caller asker.now) (standing kinds.NoFile
+        (both (version_at core.now source.now.bucket source.now.num) (version_at core.now bucket file)))) }
+    ensures found { IfOk result (λ p. both (version_at core.now source.now.bucket source.now.num)
+        (version_at core.now bucket file) ≡ Some (p.0.now, p.1.now)) }
+{
+    let asked = Asked {
+        need: need_of(name),
+        more: &[],
+        fields: part_copy_fields(*source, bucket, file),
+    };
+    allowed_files(core, asker, &asked, t, source, bucket, file)
 }

@@ -6,3 +6,4 @@ pub mod ChangedVersion
 pub mod PassSteps
 pub mod UnderWay
 pub mod GivenTokens
+pub mod CurrentOf

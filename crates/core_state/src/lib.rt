@@ -3,6 +3,7 @@
 
 mod buckets;
 mod changed;
+mod current;
 mod keys;
 mod large;
 mod lookups;
@@ -15,4 +16,5 @@ mod tokens;
 mod uploads;
 
 pub use large::contents_in;
+pub use made::{marker_of, version_of};
 pub use state::Core;

@@ -1,11 +1,12 @@
 //! What later calls look up: numbers, names, versions in listing order, tokens.
 
-ghost use Rattle.std.specs.Prelude.{◌≡◌, ◌≤◌, ◌==◌, ℕ, length};
+ghost use Rattle.std.specs.Prelude.{◌≡◌, ◌≤◌, ◌==◌, ℕ, IfOk, length};
 ghost use Rattle.std.specs.Option.{option_copied};
 ghost use Rattle.std.specs.List.{list_any};
 ghost use Rattle.std.specs.Map.{values_of};
 ghost use Rattle.b2_base.specs.declared.extent.Extent.{Extent as TheExtent};
 ghost use Rattle.b2_base.specs.declared.numbers.TheConstants.{LAST_VERSION};
+ghost use Rattle.b2_model.specs.Current.{current};
 ghost use Rattle.b2_model.specs.Policy.{bucket_named, is_same_name};
 ghost use Rattle.b2_model.specs.Rows.{rows};
 ghost use Rattle.b2_model.specs.State.{State};
@@ -16,15 +17,18 @@ ghost use Rattle.index_rows.specs.OwnRows.{AreNumbered, AreOwn, of_bucket};
 ghost use Rattle.listing_pages.specs.Unfinished.{AreStarts, AreStartsOf};
 ghost use Rattle.numbered_items.specs.Entries.{AreBy};
 
+use crate::current::current_of;
 use crate::state::Core;
 use auth_grants::Grants;
-use b2_base::{BucketNum, KeyNum, Moment, Text, VersionNum};
+use b2_base::{BucketNum, KeyNum, Memory, Moment, Text, VersionNum};
 use b2_types::{Bucket, Flight, Key, Version, VersionId};
 use name_rules::{BucketName, FileName};
 use new_versions::next_number;
 use policy_rules::Known;
 use std::alloc::Global;
 use std::collections::BTreeMap;
+use std::marker::Brand;
+use std::sync::ledger::Blank;
 use version_index::Index;
 
 // Whether the bucket has the name, without regard to case.
@@ -146,6 +150,18 @@ impl Core {
         ensures listed { (bucket : ℕ) → of_bucket bucket result.now ≡ rows self.now bucket }
     {
         self.parts.versions.index()
+    }
+
+    /// The current version of the name: the newest that is no start.
+    pub fn current(
+        &self,
+        alloc: Global,
+        bucket: BucketNum,
+        name: &[u8],
+    ) -> Result<Option<&Version>, Memory>
+        ensures { IfOk result (λ v. option_copied v ≡ current self.now bucket name.now) }
+    {
+        current_of::<Brand>(alloc, self.index(), Blank::new(1), bucket, name)
     }
 
     /// The large files that were begun and are not finished.

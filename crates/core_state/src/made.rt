@@ -22,8 +22,8 @@ use std::alloc::Global;
 /// What a marker has in place of a content type.
 const MARKER_KIND: &str = "application/x-bz-hide-marker";
 
-// The version that an upload, a start or a joined large file makes.
-fn version_of(
+/// The version that an upload, a start or a joined large file makes.
+pub fn version_of(
     alloc: Global,
     t: Moment,
     action: Action,
@@ -52,12 +52,7 @@ fn version_of(
 }
 
 /// The marker that hides the name.
-pub(crate) fn marker_of(
-    alloc: Global,
-    t: Moment,
-    id: VersionId,
-    name: FileName,
-) -> Result<Version, Memory>
+pub fn marker_of(alloc: Global, t: Moment, id: VersionId, name: FileName) -> Result<Version, Memory>
     ensures { IfOk result (λ v. v ≡ marker id.bucket id.num name t) }
 {
     Ok(Version {

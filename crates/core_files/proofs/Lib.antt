@@ -1,0 +1,4 @@
+pub mod Answered
+pub mod OnHides
+pub mod OnLarge
+pub mod OnDownloads
