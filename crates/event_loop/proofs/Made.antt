@@ -89,7 +89,6 @@ abbrev Made : Reads → ℕ → ℕ → ℕ → List ℕ → Bool → Progress (
 Made R reading c before got stay P steps ups told new e = IsMade R reading c before got told new (first_doing P steps ups) e
 
 module _ (R : Reads) (reading c before : ℕ) (got : List ℕ) (stay : Bool) (P : Progress (List ℕ)) (steps : List (Step (List ℕ))) (ups : Uploads) where
-
   refused_form : (kind : FaultKind) (e : Doing) → ups c ≡ None → DoesAll R reading c stay (act.Refuse (plain kind) ∷ []) (first_doing P steps ups) e → Made R reading c before got stay P steps ups nothing (refused kind) e
   refused_form kind e none (m, does, is) =
       let same = is ∙ does in
@@ -122,7 +121,7 @@ module _ (R : Reads) (reading c before : ℕ) (got : List ℕ) (stay : Bool) (P 
   refused_begin head more m e answer h answers none rest =
       let reply = ap (λ (x : Doing). x.outcome.reply) h.is ∙ ap (λ a. option_map (λ x. told_by x false) a) answers in
       let gone = ap (λ (x : Doing). x.uploads c) h.is ∙ updated_here ups c (begun_on (ups c) h.call (answer_to of_bytes P (begins reading c h.token h.call)))
-          ∙ ap (λ up. begun_on up h.call (answer_to of_bytes P (begins reading c h.token h.call))) none ∙ ap (begun_on None h.call) answers in
+      ∙ ap (λ up. begun_on up h.call (answer_to of_bytes P (begins reading c h.token h.call))) none ∙ ap (begun_on None h.call) answers in
       (behind_reply R reading c stay more m e (told_by answer false) reply rest, reply, gone)
 
   begun_kept : (head : Head) (m : Doing) (h : HasBegun head m) → KeepsUploads c ups m.uploads
@@ -132,9 +131,9 @@ module _ (R : Reads) (reading c before : ℕ) (got : List ℕ) (stay : Bool) (P 
   under_way : (head : Head) (m : Doing) (h : HasBegun head m) → answer_to of_bytes P (begins reading c h.token h.call) ≡ None → ups c ≡ None
       → (m.outcome.reply ≡ None) × (m.uploads c ≡ Some (record { call = h.call; came = [] }))
   under_way head m h answers none = (
-      ap (λ (x : Doing). x.outcome.reply) h.is ∙ ap (λ a. option_map (λ x. told_by x false) a) answers,
-      ap (λ (x : Doing). x.uploads c) h.is ∙ updated_here ups c (begun_on (ups c) h.call (answer_to of_bytes P (begins reading c h.token h.call)))
-      ∙ ap (λ up. begun_on up h.call (answer_to of_bytes P (begins reading c h.token h.call))) none ∙ ap (begun_on None h.call) answers,
+    ap (λ (x : Doing). x.outcome.reply) h.is ∙ ap (λ a. option_map (λ x. told_by x false) a) answers,
+    ap (λ (x : Doing). x.uploads c) h.is ∙ updated_here ups c (begun_on (ups c) h.call (answer_to of_bytes P (begins reading c h.token h.call)))
+        ∙ ap (λ up. begun_on up h.call (answer_to of_bytes P (begins reading c h.token h.call))) none ∙ ap (begun_on None h.call) answers,
   )
 
   begun_by : (head : Head) (came : List ℕ) (m e : Doing) (h : HasBegun head m) (answer : Option (AnswerOf (List ℕ))) → answer_to of_bytes P (begins reading c h.token h.call) ≡ answer → ups c ≡ None → IsAsked before got (begun head came)
@@ -154,7 +153,7 @@ module _ (R : Reads) (reading c before : ℕ) (got : List ℕ) (stay : Bool) (P 
         makes = subst (Begins R reading c head (first_doing P steps ups).outcome) (sym b.outcome) (begins_so head m h);
         kept = λ n apart. b.kept n apart ∙ begun_kept head m h n apart;
         idle = unreplied e.outcome (Awaits R before got (e.uploads c) (begun head came)) (e.uploads c ≡ None) (ap (λ (o : Outcome). o.reply) b.outcome ∙ reply)
-          (asked, subst (λ x. MatchOption x ⊥ (IsUnderWay R head came)) (sym up) (record { token = h.token; read = h.read; came_is = refl }));
+            (asked, subst (λ x. MatchOption x ⊥ (IsUnderWay R head came)) (sym up) (record { token = h.token; read = h.read; came_is = refl }));
       }
 
   -- the upload that is under way on the connection ends
@@ -179,7 +178,7 @@ module _ (R : Reads) (reading c before : ℕ) (got : List ℕ) (stay : Bool) (P 
       let o = (first_doing P steps ups).outcome in
       record {
         makes = subst (λ b. IsCarriedOut R reading c b false head body o e.outcome) (sym upload)
-          (m.outcome, begins_so head m h, subst (λ x. MatchOption x (Ends R reading c head body m.outcome e.outcome) (λ _. e.outcome ≡ m.outcome)) (sym reply) (ap (λ (x : Doing). x.outcome) same));
+            (m.outcome, begins_so head m h, subst (λ x. MatchOption x (Ends R reading c head body m.outcome e.outcome) (λ _. e.outcome ≡ m.outcome)) (sym reply) (ap (λ (x : Doing). x.outcome) same));
         kept = λ n apart. ap (λ (x : Doing). x.uploads n) same ∙ begun_kept head m h n apart;
         idle = replied e.outcome (told_by answer false) (Awaits R before got (e.uploads c) (complete head body rest)) (e.uploads c ≡ None) (ap (λ (x : Doing). x.outcome.reply) same ∙ reply) (ap (λ (x : Doing). x.uploads c) same ∙ gone);
       }
@@ -195,7 +194,7 @@ module _ (R : Reads) (reading c before : ℕ) (got : List ℕ) (stay : Bool) (P 
       let outcome : e.outcome ≡ made head.request.stay (ends_with h.call body) m.outcome = ap (λ (z : Doing). z.outcome) is ∙ out ∙ ap (made stay (ends_with h.call body)) b.outcome ∙ ap (λ t. made t (ends_with h.call body) m.outcome) stays in
       record {
         makes = subst (λ t. IsCarriedOut R reading c t false head body o e.outcome) (sym upload)
-          (m.outcome, begins_so head m h, subst (λ z. MatchOption z (Ends R reading c head body m.outcome e.outcome) (λ _. e.outcome ≡ m.outcome)) (sym reply) (h.token, h.call, h.read, outcome));
+            (m.outcome, begins_so head m h, subst (λ z. MatchOption z (Ends R reading c head body m.outcome e.outcome) (λ _. e.outcome ≡ m.outcome)) (sym reply) (h.token, h.call, h.read, outcome));
         kept = λ n apart. ap (λ (z : Doing). z.uploads n) is ∙ others n apart ∙ b.kept n apart ∙ begun_kept head m h n apart;
         idle = replied e.outcome r (Awaits R before got (e.uploads c) (complete head body rest)) (e.uploads c ≡ None) (ap (λ (z : Doing). z.outcome.reply) is ∙ some) (ap (λ (z : Doing). z.uploads c) is ∙ gone);
       }
@@ -213,7 +212,7 @@ module _ (R : Reads) (reading c before : ℕ) (got : List ℕ) (stay : Bool) (P 
         makes = subst (λ t. BeginsOnce R reading c t head d.outcome e.outcome) (sym (open_upload before got head (came ++ more) asked).upload) b.outcome;
         kept = b.kept;
         idle = unreplied e.outcome (Awaits R before got (e.uploads c) (begun head (came ++ more))) (e.uploads c ≡ None) (ap (λ (o : Outcome). o.reply) b.outcome)
-          (asked, subst (λ x. MatchOption x ⊥ (IsUnderWay R head (came ++ more))) (sym up) (record { token = way.token; read = way.read; came_is = whole }));
+            (asked, subst (λ x. MatchOption x ⊥ (IsUnderWay R head (came ++ more))) (sym up) (record { token = way.token; read = way.read; came_is = whole }));
       }
 
   -- the rest of it comes

@@ -116,6 +116,7 @@ untouched R ups vps t u w c is h table = by (conn_at t c) refl
         by_number : (b : Bool) → nat_eq c d ≡ b → IsConnOf R u d (vps d) (w.conns d)
         by_number true same = subst (λ e. IsConnOf R u e (vps e) (w.conns e)) (eqb-true c d same) (subst (IsConnOf R u c (vps c)) (sym is) (closed_talk u c h.none, h.idle))
         by_number false apart = subst (λ up. IsConnOf R u d up (w.conns d)) (sym (h.kept d (eqb-false c d apart))) (kept_conn R (w.conns d) t u d (ups d) (h.others d (λ e. eqb-false c d apart (sym e))) (table.each d))
+
     by : (j : Option (Kept (List ℕ))) → conn_at t c ≡ j → IsTable R vps u w
     by None has =
         let size = subst (λ i. count_of u + cond (is_some i) 1 0 ≡ count_of t) has h.count in
