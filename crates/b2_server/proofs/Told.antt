@@ -25,8 +25,8 @@ use Rattle.call_paths.specs.declared.routes.Route.{Route}
 use Rattle.http_edge.specs.declared.head.Head.{Head}
 use Rattle.http_edge.specs.Reply.{reply_of}
 use Rattle.api_json.specs.Call.{HasCredentials}
-use Rattle.event_loop.specs.Answering.{IsAnswer}
-use Rattle.b2_server.specs.Store.{IsAt, IsGranted, begun_at, granted, master_account}
+use Rattle.event_loop.specs.Answering.{IsAnswer, Uploads}
+use Rattle.b2_server.specs.Store.{IsAt, IsQuiet, IsGranted, begun_at, granted, master_account}
 use Rattle.b2_server.specs.Answer.{IsCallOf, IsCall, after_asking, told_to, Tells, IsTold}
 use Rattle.b2_server.specs.declared.store.FirstStore.{FirstStore}
 use Rattle.b2_server.proofs.FirstPath.{asked, refusal, giving, Gave, asks_none, asks_other, asks_full, asks_own}
@@ -147,14 +147,14 @@ told_of s P reading head call told named of_version has answers = record {
 }
 
 pub is_answer : (s : FirstStore) (P : Progress (List ℕ)) (reading : ℕ) (head : Head) (body text : List ℕ) (told : AnswerOf (List ℕ)) → IsTold s P reading head told → text ≡ reply_of told head.request.stay
-    → IsAnswer IsCall (IsAt s) P reading head body text
+    → (ups : Uploads) → ((c : ℕ) → ups c ≡ None) → IsAnswer IsCall (IsQuiet s) ups P reading head body text
 unfolding after_asking told_to
-is_answer s P reading head body text told is text_is = record {
+is_answer s P reading head body text told is text_is ups none = record {
   token = None;
   asked = is.asked;
   told = told;
   read = (refl, is.read);
   answers = is.tells.answers;
-  after = is.tells.after;
+  after = record { at = is.tells.after; none = none };
   text_is = text_is;
 }

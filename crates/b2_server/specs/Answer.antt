@@ -5,6 +5,7 @@ use Rattle.rule_table.specs.declared.call.CallName.TheVariants as calls
 use Rattle.b2_types.specs.declared.call.Credentials.{Credentials}
 use Rattle.b2_types.specs.declared.call.Call.{Call}
 use Rattle.b2_types.specs.declared.call.Call.TheVariants.{AuthorizeAccount}
+use Rattle.b2_types.specs.declared.upload.UploadCall.{UploadCall}
 use Rattle.b2_types.specs.declared.answer.AnswerOf.{AnswerOf}
 use Rattle.b2_model.specs.Run.{Progress, asks, step, answer_to, of_bytes}
 use Rattle.wire_forms.specs.declared.request.Request.{Request}
@@ -12,7 +13,6 @@ use Rattle.call_paths.specs.declared.routes.Route.{Route}
 use Rattle.http_edge.specs.declared.head.Head.{Head}
 use Rattle.api_json.specs.Call.{HasCredentials}
 use Rattle.served_world.specs.Replies.{Reads}
-use Rattle.event_loop.specs.Answering.{calls_alone}
 use Rattle.b2_server.specs.Store.{IsAt}
 use Rattle.b2_server.specs.declared.store.FirstStore.{FirstStore}
 
@@ -31,9 +31,13 @@ IsCallAt head c = IsCallOf head.route.name head.route head.request c
 abbrev pub IsCall : Head → List ℕ → Option (List ℕ) → Call → Type 0
 IsCall head body token c = (token ≡ None) × IsCallAt head c
 
--- requests are read so; none is an upload
+-- none is an upload
+abbrev pub IsUpload : Head → Option (List ℕ) → UploadCall → Type 0
+IsUpload head token u = ⊥
+
+-- requests are read so
 abbrev pub reads : Reads
-reads = calls_alone IsCall
+reads = record { call = IsCall; upload = IsUpload }
 
 -- ---- one step. These two words do not unfold by themselves.
 

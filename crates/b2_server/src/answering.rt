@@ -3,13 +3,13 @@
 ghost use Rattle.std.specs.Prelude.{◌≡◌, ◌<◌, ℕ, List, IfOk, length};
 ghost use Rattle.b2_model.specs.Run.{Progress};
 ghost use Rattle.http_edge.specs.Reply.{reply_of};
-ghost use Rattle.event_loop.specs.Answering.{IsServedHead, IsAnswer, IsText};
+ghost use Rattle.event_loop.specs.Answering.{IsServedHead, IsAnswer, IsText, Uploads};
 ghost use Rattle.b2_server.specs.Answer.{IsCall, IsTold};
-ghost use Rattle.b2_server.specs.Store.{IsAt};
+ghost use Rattle.b2_server.specs.Store.{IsAt, IsQuiet};
 
 use crate::store::FirstStore;
 use api_json::authorize_call;
-use b2_base::{Blob, Memory, Or};
+use b2_base::{Blob, ConnNum, Memory, Or};
 use b2_types::{AnswerOf, Shown};
 use event_loop::{Answering, reply_text};
 use http_edge::Head;
@@ -62,9 +62,9 @@ impl FirstStore {
     // The bytes that answer the request.
     fn reply(&mut self, alloc: Global, reading: u64, head: &Head) -> Result<Blob, Memory>
         requires { IsServedHead head.now }
-        ensures answer { IfOk result (λ text. (P : Progress (List ℕ)) (body : List ℕ)
-            → IsAt self.old P.state P.words
-            → IsAnswer IsCall (IsAt self.new) P reading head.now body text) }
+        ensures answer { IfOk result (λ text. (P : Progress (List ℕ)) (body : List ℕ) (ups : Uploads)
+            → IsQuiet self.old P.state P.words ups
+            → IsAnswer IsCall (IsQuiet self.new) ups P reading head.now body text) }
         ensures some { IfOk result (λ text. 0 < length text) }
     {
         let answer = self.told(alloc, reading, head)?;
@@ -74,12 +74,14 @@ impl FirstStore {
 }
 
 impl Answering for FirstStore {
-    ghost use Rattle.b2_server.specs.Answer.{IsCall};
-    ghost use Rattle.b2_server.specs.Store.{IsAt};
+    ghost use Rattle.b2_server.specs.Answer.{IsCall, IsUpload};
+    ghost use Rattle.b2_server.specs.Store.{IsQuiet};
 
     ghost call = { IsCall };
 
-    ghost at = { IsAt };
+    ghost upload = { IsUpload };
+
+    ghost at = { IsQuiet };
 
     fn answer(
         &mut self,
@@ -90,5 +92,34 @@ impl Answering for FirstStore {
     ) -> Result<Blob, Memory> {
         let text = self.reply(alloc, reading, head)?;
         Ok(text)
+    }
+
+    // No call that is served is an upload.
+    fn begin(
+        &mut self,
+        _alloc: Global,
+        _reading: u64,
+        _c: ConnNum,
+        _head: &Head,
+    ) -> Result<Option<Blob>, Memory> {
+        unreachable!()
+    }
+
+    fn piece(&mut self, _alloc: Global, _c: ConnNum, _bytes: &[u8]) -> Result<(), Memory> {
+        Ok(())
+    }
+
+    fn end(
+        &mut self,
+        _alloc: Global,
+        _reading: u64,
+        _c: ConnNum,
+        _stay: bool,
+    ) -> Result<Option<Blob>, Memory> {
+        Ok(None)
+    }
+
+    fn lost(&mut self, _alloc: Global, _reading: u64, _c: ConnNum) -> Result<(), Memory> {
+        Ok(())
     }
 }

@@ -11,18 +11,19 @@ use Rattle.conn_table.specs.Table.{conn_at, count_of, IsIn}
 use Rattle.conn_table.specs.declared.conn.Conn.{Conn as Kept}
 use Rattle.served_world.specs.Replies.{Reads}
 use Rattle.served_world.specs.World.{Turn, World, start, Happens}
+use Rattle.event_loop.specs.Answering.{At, none_under_way}
 use Rattle.event_loop.specs.Serving.{IsWorld, all_taken, Serves}
 use Rattle.event_loop.specs.Turns.{RunsWhole, HasRun}
 
 -- so many turns were served, and these events and readings are left
-pub record HasServed (R : Reads) (first : World) (events left : List Event) (readings later : List ℕ) (count : ℕ) (now : State (List ℕ) → List ℕ → Type 0) (t : Conns (List ℕ)) (sent : List SentPiece) : Type 0 where
+pub record HasServed (R : Reads) (first : World) (events left : List Event) (readings later : List ℕ) (count : ℕ) (now : At) (t : Conns (List ℕ)) (sent : List SentPiece) : Type 0 where
   pub turns : List Turn
   pub world : World
   pub ran : RunsWhole R first turns world
   pub events_are : map (λ (x : Turn). x.event) turns ++ left ≡ events
   pub readings_are : map (λ (x : Turn). x.reading) turns ++ later ≡ readings
   pub so_many : length turns ≡ count
-  pub at : IsWorld now t world
+  pub at : IsWorld R now t world
   pub sends : sent ≡ world.sends
 
 run_more : (R : Reads) (w : World) (turns : List Turn) (t : Turn) (m v : World) → RunsWhole R w turns m → t.took ≡ all_taken m t.event → Happens R t.reading t.took m t.event v → RunsWhole R w (turns ++ t ∷ []) v
@@ -43,7 +44,7 @@ next_reading front (x ∷ left) rest readings last r all some is_first is_rest =
 one_more : {X : Type 0} (front left rest all : List X) (x : X) → front ++ left ≡ all → left ≡ x ∷ rest → (front ++ x ∷ []) ++ rest ≡ all
 one_more front left rest all x is next = append_assoc front (x ∷ []) rest ∙ ap (λ l. front ++ l) (sym next) ∙ is
 
-pub served_more : (R : Reads) (first : World) (events left rest : List Event) (readings later after : List ℕ) (i last reading : ℕ) (e : Event) (was now : State (List ℕ) → List ℕ → Type 0) (t u : Conns (List ℕ)) (before sent : List SentPiece)
+pub served_more : (R : Reads) (first : World) (events left rest : List Event) (readings later after : List ℕ) (i last reading : ℕ) (e : Event) (was now : At) (t u : Conns (List ℕ)) (before sent : List SentPiece)
     → i < length events → i < length readings → e ≡ first_event left → rest ≡ drop 1 left → reading ≡ first_or last later → after ≡ drop 1 later → Serves R reading e was t before now u sent
     → HasServed R first events left readings later i was t before → HasServed R first events rest readings after (i + 1) now u sent
 served_more R first events left rest readings later after i last reading e was now t u before sent some_events some_readings is_event is_rest is_reading is_after serves h =
@@ -67,7 +68,7 @@ served_more R first events left rest readings later after i last reading e was n
     }
 
 -- nothing was served yet
-pub served_none : (R : Reads) (M : State (List ℕ)) (words : List ℕ) (events : List Event) (readings : List ℕ) (now : State (List ℕ) → List ℕ → Type 0) (t : Conns (List ℕ)) (sent : List SentPiece) → now M words → ((c : ℕ) → conn_at t c ≡ None) → count_of t ≡ 0 → sent ≡ []
+pub served_none : (R : Reads) (M : State (List ℕ)) (words : List ℕ) (events : List Event) (readings : List ℕ) (now : At) (t : Conns (List ℕ)) (sent : List SentPiece) → now M words none_under_way → ((c : ℕ) → conn_at t c ≡ None) → count_of t ≡ 0 → sent ≡ []
     → HasServed R (start M words) events events readings readings 0 now t sent
 served_none R M words events readings now t sent at closed none unsent = record {
   turns = [];
@@ -76,7 +77,7 @@ served_none R M words events readings now t sent at closed none unsent = record 
   events_are = refl;
   readings_are = refl;
   so_many = refl;
-  at = record { machine = at; table = record { each = λ c. subst (λ (j : Option (Kept (List ℕ))). IsIn None j) (sym (closed c)) (record {}); count = none } };
+  at = record { uploads = none_under_way; machine = at; table = record { each = λ c. (subst (λ (j : Option (Kept (List ℕ))). IsIn None j) (sym (closed c)) (record {}), refl); count = none } };
   sends = unsent;
 }
 
@@ -87,7 +88,7 @@ no_more front (x ∷ left) all is same =
     let both = length-append front (x ∷ left) in absurd (omega (arith, size, both, same))
 
 -- all were served
-pub all_served : (R : Reads) (first : World) (events left : List Event) (readings later : List ℕ) (n : ℕ) (now : State (List ℕ) → List ℕ → Type 0) (t : Conns (List ℕ)) (sent : List SentPiece) → n ≡ length events → n ≡ length readings → HasServed R first events left readings later n now t sent → HasRun R first events readings sent
+pub all_served : (R : Reads) (first : World) (events left : List Event) (readings later : List ℕ) (n : ℕ) (now : At) (t : Conns (List ℕ)) (sent : List SentPiece) → n ≡ length events → n ≡ length readings → HasServed R first events left readings later n now t sent → HasRun R first events readings sent
 all_served R first events left readings later n now t sent is_events is_readings h =
     let counted = h.so_many in
     let event_count = length-map h.turns (λ (x : Turn). x.event) in
@@ -106,7 +107,7 @@ some_sent : (a b : List SentPiece) → Some b ≡ Some a → b ≡ a
 some_sent a b same = ap (λ o. unwrap_or o b) same
 
 -- the link has what it had
-pub same_sent : {R : Reads} {first : World} {events left : List Event} {readings later : List ℕ} {i : ℕ} {now : State (List ℕ) → List ℕ → Type 0} {t : Conns (List ℕ)} {before after : List SentPiece} → HasServed R first events left readings later i now t before → Some after ≡ Some before
+pub same_sent : {R : Reads} {first : World} {events left : List Event} {readings later : List ℕ} {i : ℕ} {now : At} {t : Conns (List ℕ)} {before after : List SentPiece} → HasServed R first events left readings later i now t before → Some after ≡ Some before
     → HasServed R first events left readings later i now t after
 same_sent {R = R} {first = first} {events = events} {left = left} {readings = readings} {later = later} {i = i} {now = now} {t = t} {before = before} {after = after} h same =
     subst (HasServed R first events left readings later i now t) (sym (some_sent before after same)) h

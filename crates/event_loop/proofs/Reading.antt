@@ -1,136 +1,103 @@
 -- Bytes come on a connection: what the world makes of them.
-use Rattle.std.proofs.Common.{◌≡◌, ℕ, nat_eq, false, List, [], ◌∷◌, ◌++◌, Option, Some, None, option_map, refl, sym, ap, ◌∙◌, subst}
+use Rattle.std.proofs.Common.{◌≡◌, ℕ, nat_eq, Bool, List, [], ◌∷◌, ◌++◌, Option, Some, None, option_map, MatchOption, refl, sym, ap, ◌∙◌, subst, ◌<◌, length, arith}
 use Rattle.std.specs.Map.{update}
-use Rattle.rule_table.specs.declared.fault.FaultKind.{FaultKind}
-use Rattle.b2_types.specs.Fault.{plain}
+use Rattle.std.specs.List.{AllByRecursion}
 use Rattle.b2_model.specs.State.{State}
-use Rattle.b2_model.specs.Run.{asks}
-use Rattle.http_edge.specs.declared.head.Head.{Head}
-use Rattle.http_edge.specs.Length.{is_upload}
 use Rattle.conn_talk.specs.declared.act.Act.{Act}
-use Rattle.conn_talk.specs.declared.act.Act.TheVariants as act
 use Rattle.conn_talk.specs.declared.pending.Pending.{Pending}
-use Rattle.conn_talk.specs.Asked.{Asked, nothing, refused, begun, complete, IsAsked}
-use Rattle.conn_talk.specs.Acts.{acts_of}
-use Rattle.conn_talk.specs.Talk.{Talk, TakesPiece}
+use Rattle.conn_talk.specs.Asked.{Asked, IsAsked, stay_of, with_more}
+use Rattle.conn_talk.specs.Acts.{acts_after}
+use Rattle.conn_talk.specs.Talk.{Talk, TakesPiece, asks_stay}
 use Rattle.conn_table.specs.declared.table.Conns.{Conns}
 use Rattle.conn_table.specs.Table.{count_of, IsTalk, KeepsOthers}
-use Rattle.served_world.specs.Replies.{Reads, form, told as told_by, Outcome, made, Makes, IsCarriedOut}
+use Rattle.served_world.specs.Replies.{Reads, Reply, Outcome}
 use Rattle.served_world.specs.World.{Conn, World, with_conn, nothing_made, pending_of, conn_read, conn_held, after_piece, IsPiece}
-use Rattle.event_loop.specs.Answering.{ReadsCall, calls_alone, IsReplyTo, pending}
-use Rattle.event_loop.specs.Serving.{IsIdle, IsConnOf, IsTable, IsWorld}
-use Rattle.event_loop.proofs.Heads.{talk, whole_served, served_no_upload, whole_acts, none_begins}
-use Rattle.event_loop.proofs.Tables.{each_again}
+use Rattle.event_loop.specs.Answering.{At, Upload, Uploads, IsServedAct}
+use Rattle.event_loop.specs.Doing.{Doing, DoesAll, IsThere}
+use Rattle.event_loop.specs.Serving.{Awaits, IsIdle, IsConnOf, IsTable, IsWorld}
+use Rattle.event_loop.proofs.Heads.{acts_served}
+use Rattle.event_loop.proofs.Tables.{KeepsUploads, each_again}
+use Rattle.event_loop.proofs.Doing.{HasDone}
+use Rattle.event_loop.proofs.Made.{first_doing, IsMade, all_made}
 
--- a connection by its parts
+-- a talk, and a connection, by their parts
+abbrev pub talk : ℕ → List ℕ → Asked → Option (Pending (List ℕ)) → Talk (List ℕ)
+talk before got told reply = record { before = before; got = got; told = told; reply = reply }
+
 abbrev pub conn : ℕ → Talk (List ℕ) → List ℕ → List ℕ → Conn
 conn name a came sent = record { name = name; talk = a; came = came; sent = sent }
 
+-- ---- what a piece brings
+
+-- its acts are of requests that are served
+pub takes_served : (a : Talk (List ℕ)) (bytes : List ℕ) (acts : List Act) (b : Talk (List ℕ)) → TakesPiece a bytes acts b → AllByRecursion IsServedAct acts
+takes_served a bytes acts b takes = by a.reply takes
+  where
+    by : (x : Option (Pending (List ℕ)))
+        → MatchOption x ((new : Asked) × IsAsked a.before (a.got ++ bytes) new × (acts ≡ acts_after a.told new) × (b ≡ record a { got = a.got ++ bytes; told = new })) (λ _. (acts ≡ []) × (b ≡ record a { told = with_more a.told bytes })) → AllByRecursion IsServedAct acts
+    by None (new, asked, same, is) = subst (AllByRecursion IsServedAct) (sym same) (acts_served a.before (a.got ++ bytes) a.told new asked)
+    by (Some p) (none, is) = subst (AllByRecursion IsServedAct) (sym none) (record {})
+
+-- its request has no reply, where it brings some
+pub unanswered_by : (a : Talk (List ℕ)) (bytes : List ℕ) (acts : List Act) (b : Talk (List ℕ)) → TakesPiece a bytes acts b → 0 < length acts → b.reply ≡ None
+unanswered_by a bytes acts b takes some = by a.reply refl takes
+  where
+    by : (x : Option (Pending (List ℕ))) → a.reply ≡ x
+        → MatchOption x ((new : Asked) × IsAsked a.before (a.got ++ bytes) new × (acts ≡ acts_after a.told new) × (b ≡ record a { got = a.got ++ bytes; told = new })) (λ _. (acts ≡ []) × (b ≡ record a { told = with_more a.told bytes })) → b.reply ≡ None
+    by None at (new, asked, same, is) = ap (λ (t : Talk (List ℕ)). t.reply) is ∙ at
+    by (Some p) at (none, is) = let size = ap length none in absurd (omega (arith, size, some))
+
+-- ---- what the world makes of it
+
 -- the world whose one connection became this one
-pub record IsSet (t u : Conns (List ℕ)) (w : World) (c : ℕ) (k : Conn) : Type 0 where
-  pub old : IsTable t (with_conn w c (Some k))
+pub record IsSet (R : Reads) (ups : Uploads) (t u : Conns (List ℕ)) (w : World) (c : ℕ) (k : Conn) : Type 0 where
+  pub old : IsTable R ups t (with_conn w c (Some k))
   pub others : KeepsOthers c t u
   pub count : count_of u ≡ count_of t
 
-set_table : (t u : Conns (List ℕ)) (w v : World) (c : ℕ) (k l : Conn) → IsSet t u w c k → IsConnOf u c (Some l) → v.conns ≡ update nat_eq w.conns c (Some l) → v.count ≡ w.count → IsTable u v
-set_table t u w v c k l is here conns count = record {
-  each = λ d. subst (λ f. IsConnOf u d (f d)) (sym conns) (each_again t u w.conns c (Some l) (Some k) is.old.each is.others here d);
+set_table : (R : Reads) (ups vps : Uploads) (t u : Conns (List ℕ)) (w v : World) (c : ℕ) (k l : Conn) → IsSet R ups t u w c k → KeepsUploads c ups vps → IsConnOf R u c (vps c) (Some l) → v.conns ≡ update nat_eq w.conns c (Some l) → v.count ≡ w.count → IsTable R vps u v
+set_table R ups vps t u w v c k l is kept here conns count = record {
+  each = λ d. subst (λ f. IsConnOf R u d (vps d) (f d)) (sym conns) (each_again R t u w.conns ups vps c (Some l) (Some k) is.old.each is.others kept here d);
   count = is.count ∙ is.old.count ∙ sym count;
 }
 
--- what bytes make of a world, where more is done than in the one before
-abbrev pub Reads_on : Reads → ℕ → World → ℕ → Conn → List ℕ → (State (List ℕ) → List ℕ → Type 0) → Conns (List ℕ) → Type 0
-Reads_on R reading w c k bytes now u = (v : World) × IsPiece R reading w c k bytes v × IsWorld now u v × (v.sends ≡ w.sends)
+-- what bytes make of a world
+abbrev pub Reads_on : Reads → ℕ → World → ℕ → Conn → List ℕ → At → Conns (List ℕ) → Type 0
+Reads_on R reading w c k bytes now u = (v : World) × IsPiece R reading w c k bytes v × IsWorld R now u v × (v.sends ≡ w.sends)
 
--- ---- no act comes
-
-no_acts : (before : ℕ) (bytes : List ℕ) (new : Asked) → IsAsked before bytes new → [] ≡ acts_of new → new ≡ nothing
-no_acts before bytes nothing asked same = refl
-no_acts before bytes (refused kind) asked same = cc same
-no_acts before bytes (begun head came) asked same = absurd (none_begins before bytes head came asked)
-no_acts before bytes (complete head body rest) asked same =
-    let none : [] ≡ act.Whole head body ∷ [] = same ∙ whole_acts head body rest (whole_served before bytes head body rest asked) in cc none
-
-pub quiet : (R : Reads) (reading : ℕ) (now : State (List ℕ) → List ℕ → Type 0) (t u : Conns (List ℕ)) (w : World) (c name before : ℕ) (got : List ℕ) (asked : Asked) (reply : Option (Pending (List ℕ))) (came sent bytes : List ℕ) (b : Talk (List ℕ))
-    → IsSet t u w c (conn name (talk before got asked reply) came sent) → IsIdle (talk before got asked reply) → TakesPiece (talk before got asked reply) bytes [] b → IsTalk u c (Some b)
-    → now w.machine.state w.machine.words → Reads_on R reading w c (conn name (talk before got asked reply) came sent) bytes now u
-quiet R reading now t u w c name before got asked (Some p) came sent bytes b set idle (none, is) here at =
-    let k = conn name (talk before got asked (Some p)) came sent in
-    let v = with_conn w c (Some (conn_held k bytes)) in
-    let stands : IsConnOf u c (Some (conn_held k bytes)) = (subst (λ x. IsTalk u c (Some x)) is here, record {}) in
-    (v, refl, record { machine = at; table = set_table t u w v c k (conn_held k bytes) set stands refl refl }, refl)
-quiet R reading now t u w c name before got nothing None came sent bytes b set idle (new, asks_for, none, is) here at =
-    let is_none = no_acts before (got ++ bytes) new asks_for none in
-    let k = conn name (talk before got nothing None) came sent in
-    let l = conn_read k bytes nothing (nothing_made w) in
-    let v = after_piece w c k bytes nothing (nothing_made w) in
-    let same : b ≡ l.talk = is ∙ ap (λ n. talk before (got ++ bytes) n None) is_none in
-    let stands : IsConnOf u c (Some l) = (subst (λ x. IsTalk u c (Some x)) same here, refl) in
-    (v, (nothing, nothing_made w, subst (IsAsked before (got ++ bytes)) is_none asks_for, refl, refl), record { machine = at; table = set_table t u w v c k l set stands refl refl }, refl)
-quiet R reading now t u w c name before got (refused kind) None came sent bytes b set idle more here at = absurd (cc idle)
-quiet R reading now t u w c name before got (begun head body) None came sent bytes b set idle more here at = absurd (cc idle)
-quiet R reading now t u w c name before got (complete head body left) None came sent bytes b set idle more here at = absurd (cc idle)
-
--- ---- an act comes, and is answered
-
--- an outcome, and the reply that it makes
-record IsOutcome (R : Reads) (reading c : ℕ) (now : State (List ℕ) → List ℕ → Type 0) (w : World) (new : Asked) (p : Pending (List ℕ)) : Type 0 where
-  outcome : Outcome
-  makes : Makes R reading c nothing new (nothing_made w) outcome
-  machine : now outcome.machine.state outcome.machine.words
-  reply_is : option_map pending_of outcome.reply ≡ Some p
-
-one_act : (a b : Act) (rest : List Act) → a ∷ rest ≡ b ∷ [] → a ≡ b
-one_act a b rest same = cc same
-
-no_act : (a : Act) (rest : List Act) → a ∷ rest ≡ [] → ⊥
-no_act a rest same = cc same
-
-carried : (R : Reads) (reading c : ℕ) (head : Head) (body rest : List ℕ) (o p : Outcome) → is_upload head.route.name ≡ false → IsCarriedOut R reading c false false head body o p
-    → Makes R reading c nothing (complete head body rest) o p
-carried R reading c head body rest o p plain_call is = subst (λ b. IsCarriedOut R reading c b false head body o p) (sym plain_call) is
-
-refusal : (call : ReadsCall) (reading c : ℕ) (now : State (List ℕ) → List ℕ → Type 0) (w : World) (kind : FaultKind) (p : Pending (List ℕ)) → IsReplyTo call now w.machine reading (act.Refuse (plain kind)) p
-    → IsOutcome (calls_alone call) reading c now w (refused kind) p
-refusal call reading c now w kind p (at, is) = record { outcome = record (nothing_made w) { reply = Some (form kind) }; makes = refl; machine = at; reply_is = ap Some (sym is) }
-
-answer : (call : ReadsCall) (reading c : ℕ) (now : State (List ℕ) → List ℕ → Type 0) (w : World) (head : Head) (body rest : List ℕ) (p : Pending (List ℕ)) → is_upload head.route.name ≡ false
-    → IsReplyTo call now w.machine reading (act.Whole head body) p → IsOutcome (calls_alone call) reading c now w (complete head body rest) p
-answer call reading c now w head body rest p plain_call (text, a, is) =
-    let stay = head.request.stay in
-    let o = made stay (asks reading a.token a.asked) (nothing_made w) in
-    record {
-      outcome = o;
-      makes = carried (calls_alone call) reading c head body rest (nothing_made w) o plain_call (a.token, a.asked, a.read, refl);
-      machine = a.after;
-      reply_is = ap (λ x. option_map pending_of (option_map (λ r. told_by r stay) x)) a.answers ∙ ap (λ t. Some (pending t stay)) (sym a.text_is) ∙ ap Some (sym is);
-    }
-
-outcome_of : (call : ReadsCall) (reading c : ℕ) (now : State (List ℕ) → List ℕ → Type 0) (w : World) (before : ℕ) (bytes : List ℕ) (new : Asked) (a : Act) (rest : List Act) (p : Pending (List ℕ)) → IsAsked before bytes new → a ∷ rest ≡ acts_of new
-    → IsReplyTo call now w.machine reading a p → IsOutcome (calls_alone call) reading c now w new p
-outcome_of call reading c now w before bytes nothing a rest p asked same is = absurd (no_act a rest same)
-outcome_of call reading c now w before bytes (refused kind) a rest p asked same is = refusal call reading c now w kind p (subst (λ b. IsReplyTo call now w.machine reading b p) (one_act a (act.Refuse (plain kind)) rest same) is)
-outcome_of call reading c now w before bytes (begun head came) a rest p asked same is = absurd (none_begins before bytes head came asked)
-outcome_of call reading c now w before bytes (complete head body more) a rest p asked same is =
-    let routed = whole_served before bytes head body more asked in
-    let one = one_act a (act.Whole head body) rest (same ∙ whole_acts head body more routed) in
-    answer call reading c now w head body more p (served_no_upload head routed) (subst (λ b. IsReplyTo call now w.machine reading b p) one is)
-
-pub answered : (call : ReadsCall) (reading : ℕ) (now : State (List ℕ) → List ℕ → Type 0) (t u : Conns (List ℕ)) (w : World) (c name before : ℕ) (got : List ℕ) (asked : Asked) (reply : Option (Pending (List ℕ))) (came sent bytes : List ℕ) (a : Act) (rest : List Act) (b : Talk (List ℕ)) (p : Pending (List ℕ))
-    → IsSet t u w c (conn name (talk before got asked reply) came sent) → IsIdle (talk before got asked reply) → TakesPiece (talk before got asked reply) bytes (a ∷ rest) b → IsTalk u c (Some (record b { reply = Some p }))
-    → IsReplyTo call now w.machine reading a p → Reads_on (calls_alone call) reading w c (conn name (talk before got asked reply) came sent) bytes now u
-answered call reading now t u w c name before got asked (Some q) came sent bytes a rest b p set idle (none, is) here told_so = absurd (no_act a rest none)
-answered call reading now t u w c name before got nothing None came sent bytes a rest b p set idle (new, asks_for, same, is) here told_so =
-    let o = outcome_of call reading c now w before (got ++ bytes) new a rest p asks_for same told_so in
-    let k = conn name (talk before got nothing None) came sent in
-    let l = conn_read k bytes new o.outcome in
-    let v = after_piece w c k bytes new o.outcome in
-    let talks : record b { reply = Some p } ≡ l.talk = ap (λ (x : Talk (List ℕ)). talk x.before x.got x.told (Some p)) is ∙ ap (talk before (got ++ bytes) new) (sym o.reply_is) in
-    let stands : IsConnOf u c (Some l) = (subst (λ x. IsTalk u c (Some x)) talks here, idle_reply before (got ++ bytes) new (option_map pending_of o.outcome.reply) p o.reply_is) in
-    (v, (new, o.outcome, asks_for, o.makes, refl), record { machine = o.machine; table = set_table t u w v c k l set stands refl refl }, refl)
+idle_as : (R : Reads) (before : ℕ) (got : List ℕ) (up : Option Upload) (new : Asked) (o : Outcome) → MatchOption o.reply (Awaits R before got up new) (λ _. up ≡ None) → IsIdle R up (talk before got new (option_map pending_of o.reply))
+idle_as R before got up new o idle = by o.reply idle
   where
-    idle_reply : (before : ℕ) (got : List ℕ) (told : Asked) (x : Option (Pending (List ℕ))) (p : Pending (List ℕ)) → x ≡ Some p → IsIdle (talk before got told x)
-    idle_reply before got told x p is = subst (λ y. IsIdle (talk before got told y)) (sym is) (record {})
-answered call reading now t u w c name before got (refused kind) None came sent bytes a rest b p set idle more here told_so = absurd (cc idle)
-answered call reading now t u w c name before got (begun head body) None came sent bytes a rest b p set idle more here told_so = absurd (cc idle)
-answered call reading now t u w c name before got (complete head body left) None came sent bytes a rest b p set idle more here told_so = absurd (cc idle)
+    by : (x : Option Reply) → MatchOption x (Awaits R before got up new) (λ _. up ≡ None) → IsIdle R up (talk before got new (option_map pending_of x))
+    by None is = is
+    by (Some r) is = is
+
+-- what the acts made of a world, and the reply to them, is what the bytes make of it
+pub piece_read : (R : Reads) (reading : ℕ) (was now : At) (stay : Bool) (ups : Uploads) (t u : Conns (List ℕ)) (w : World) (c name before : ℕ) (got : List ℕ) (told : Asked) (reply : Option (Pending (List ℕ))) (came sent bytes : List ℕ) (acts : List Act) (b : Talk (List ℕ)) (next : Option (Pending (List ℕ)))
+    → IsSet R ups t u w c (conn name (talk before got told reply) came sent) → IsIdle R (ups c) (talk before got told reply) → TakesPiece (talk before got told reply) bytes acts b → stay ≡ asks_stay (Some b)
+    → MatchOption next (IsTalk u c (Some b)) (λ p. IsTalk u c (Some (record b { reply = Some p }))) → was w.machine.state w.machine.words ups → HasDone R reading c stay was acts now next
+    → Reads_on R reading w c (conn name (talk before got told reply) came sent) bytes now u
+piece_read R reading was now stay ups t u w c name before got told (Some q) came sent bytes acts b next set idle (none, is) stays here at done =
+    let d = first_doing w.machine w.steps ups in
+    let (e, does, there, so) = done d at refl in
+    let same : e ≡ d = subst (λ xs. DoesAll R reading c stay xs d e) none does in
+    let k = conn name (talk before got told (Some q)) came sent in
+    let l = conn_held k bytes in
+    let v = with_conn w c (Some l) in
+    let no_next : next ≡ None = so ∙ ap (λ (x : Doing). option_map pending_of x.outcome.reply) same in
+    let talks : IsTalk u c (Some l.talk) = subst (λ x. IsTalk u c (Some x)) is (subst (λ x. MatchOption x (IsTalk u c (Some b)) (λ p. IsTalk u c (Some (record b { reply = Some p })))) no_next here) in
+    (v, refl, record { uploads = ups; machine = subst (IsThere now) same there; table = set_table R ups ups t u w v c k l set (λ n apart. refl) (talks, idle) refl refl }, refl)
+piece_read R reading was now stay ups t u w c name before got told None came sent bytes acts b next set idle (new, asked, acts_are, is) stays here at done =
+    let d = first_doing w.machine w.steps ups in
+    let (e, does, there, so) = done d at refl in
+    let stay_is : stay_of new ≡ stay = ap (λ (x : Talk (List ℕ)). stay_of x.told) (sym is) ∙ sym stays in
+    let m = all_made R reading c before (got ++ bytes) stay w.machine w.steps ups got bytes told new e refl idle asked stay_is (subst (λ xs. DoesAll R reading c stay xs d e) acts_are does) in
+    let k = conn name (talk before got told None) came sent in
+    let l = conn_read k bytes new e.outcome in
+    let v = after_piece w c k bytes new e.outcome in
+    let talks : IsTalk u c (Some l.talk) = subst (λ x. IsTalk u c (Some (talk before (got ++ bytes) new x))) so (answered_as next here) in
+    (v, (new, e.outcome, asked, m.makes, refl), record { uploads = e.uploads; machine = there; table = set_table R ups e.uploads t u w v c k l set m.kept (talks, idle_as R before (got ++ bytes) (e.uploads c) new e.outcome m.idle) refl refl }, refl)
+  where
+    answered_as : (x : Option (Pending (List ℕ))) → MatchOption x (IsTalk u c (Some b)) (λ p. IsTalk u c (Some (record b { reply = Some p }))) → IsTalk u c (Some (talk before (got ++ bytes) new x))
+    answered_as None at = subst (λ y. IsTalk u c (Some y)) is at
+    answered_as (Some p) at = subst (λ (y : Talk (List ℕ)). IsTalk u c (Some (record y { reply = Some p }))) is at

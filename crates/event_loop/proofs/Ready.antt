@@ -4,13 +4,13 @@ use Rattle.std.proofs.lemmas.List.{length-drop, length-take}
 use Rattle.outside_traits.specs.declared.link.SentPiece.{SentPiece}
 use Rattle.outside_traits.specs.declared.link.Event.TheVariants as event
 use Rattle.outside_traits.specs.Links.{front_sent}
-use Rattle.b2_model.specs.State.{State}
 use Rattle.conn_talk.specs.declared.pending.Pending.{Pending}
 use Rattle.conn_talk.specs.Talk.{size_of, with_sent, is_whole}
 use Rattle.conn_table.specs.declared.table.Conns.{Conns}
 use Rattle.conn_table.specs.Table.{pending_at}
 use Rattle.served_world.specs.Replies.{Reads}
 use Rattle.served_world.specs.World.{Conn, World, handed, is_last, with_send, conn_after, IsAfterSend, IsSent, IsReady}
+use Rattle.event_loop.specs.Answering.{At, Uploads}
 use Rattle.event_loop.specs.Serving.{IsTable, IsWorld, handed_on, Serves}
 use Rattle.event_loop.proofs.Tables.{has_pending, is_pending}
 
@@ -19,9 +19,9 @@ pub record HasBounds (q : Pending (List ℕ)) : Type 0 where
   pub left : q.sent < size_of q
   pub small : size_of q < 2 ^ 64
 
-pub bounds : (t : Conns (List ℕ)) (w : World) (c : ℕ) (q : Pending (List ℕ)) → IsTable t w → pending_at t c ≡ Some q → HasBounds q
-bounds t w c q table some =
-    let h = has_pending t w c q table.each some in
+pub bounds : (R : Reads) (ups : Uploads) (t : Conns (List ℕ)) (w : World) (c : ℕ) (q : Pending (List ℕ)) → IsTable R ups t w → pending_at t c ≡ Some q → HasBounds q
+bounds R ups t w c q table some =
+    let h = has_pending R ups t w c q table.each some in
     let p = is_pending t c h.k.talk h.p h.reply h.is_talk in
     subst HasBounds (sym h.shown_is) (record { left = p.left; small = p.small })
 
@@ -39,13 +39,13 @@ take_all [] = refl
 take_all (x ∷ xs) = ap (λ l. x ∷ l) (take_all xs)
 
 -- the send is the one of the world
-pub ready_served : (R : Reads) (reading : ℕ) (was now : State (List ℕ) → List ℕ → Type 0) (t u : Conns (List ℕ)) (before after : List SentPiece) (c : ℕ) (q : Pending (List ℕ)) (bytes : List ℕ) (last : Bool) (n : ℕ) → pending_at t c ≡ Some q
+pub ready_served : (R : Reads) (reading : ℕ) (was now : At) (t u : Conns (List ℕ)) (before after : List SentPiece) (c : ℕ) (q : Pending (List ℕ)) (bytes : List ℕ) (last : Bool) (n : ℕ) → pending_at t c ≡ Some q
     → bytes ≡ handed q → last ≡ ((q.sent + length bytes == size_of q) && not q.stay) → n ≡ length bytes → after ≡ before ++ front_sent c bytes last n ∷ []
-    → ((w : World) (k : Conn) (p : Pending (List ℕ)) (xs : List ℕ) → IsWorld was t w → w.conns c ≡ Some k → k.talk.reply ≡ Some p → length bytes ≡ length xs
-    → (v : World) × IsAfterSend R reading w c (conn_after k xs p) p (is_whole (with_sent (length xs) p)) v × IsWorld now u v × (v.sends ≡ w.sends))
+    → ((w : World) (k : Conn) (p : Pending (List ℕ)) (xs : List ℕ) → IsWorld R was t w → w.conns c ≡ Some k → k.talk.reply ≡ Some p → length bytes ≡ length xs
+    → (v : World) × IsAfterSend R reading w c (conn_after k xs p) p (is_whole (with_sent (length xs) p)) v × IsWorld R now u v × (v.sends ≡ w.sends))
     → Serves R reading (event.Ready c) was t before now u after
 ready_served R reading was now t u before after c q bytes last n some is_bytes is_last_of is_n grows sent w at sends =
-    let h = has_pending t w c q at.table.each some in
+    let h = has_pending R at.uploads t w c q at.table.each some in
     let k = h.k in
     let p = h.p in
     let xs = handed p in
@@ -54,7 +54,7 @@ ready_served R reading was now t u before after c q bytes last n some is_bytes i
     let s = front_sent c xs (is_last k.talk p) (length xs) in
     let piece : front_sent c bytes last n ≡ s = ap (front_sent c bytes last) is_n ∙ ap (λ (b : List ℕ). front_sent c b last (length b)) same ∙ ap (λ f. front_sent c xs f (length xs)) flag in
     let x = with_send w s in
-    let again : IsWorld was t x = record { machine = at.machine; table = record { each = at.table.each; count = at.table.count } } in
+    let again : IsWorld R was t x = record { uploads = at.uploads; machine = at.machine; table = record { each = at.table.each; count = at.table.count } } in
     let (v, does, after_at, kept) = sent x k p xs again h.found h.reply (ap length same) in
     let whole : IsSent R reading w c k p (Some (length xs)) v = subst (λ (b : List ℕ). IsAfterSend R reading x c (conn_after k b p) p (is_whole (with_sent (length b) p)) v) (sym (take_all xs)) does in
     let P : Option (Pending (List ℕ)) → Type 0 = λ y. MatchOption y (v ≡ w) (λ r. IsSent R reading w c k r (Some (unwrap_or (option_map (λ (z : Pending (List ℕ)). length (handed z)) y) 0)) v) in

@@ -9,35 +9,46 @@ use Rattle.conn_talk.specs.Talk.{Talk, IsPending, shown_as}
 use Rattle.conn_table.specs.declared.conn.Conn.{Conn as Kept}
 use Rattle.conn_table.specs.declared.table.Conns.{Conns}
 use Rattle.conn_table.specs.Table.{conn_at, pending_at, IsIn, IsTalk, IsAnswered, IsUnanswered, KeepsOthers}
+use Rattle.served_world.specs.Replies.{Reads}
 use Rattle.served_world.specs.World.{Conn, World}
 use Rattle.served_world.proofs.Conns.{changed}
+use Rattle.event_loop.specs.Answering.{Upload, Uploads}
 use Rattle.event_loop.specs.Serving.{IsIdle, IsConnOf}
 
 -- what stays in the table stays what it is
-pub kept_conn : (x : Option Conn) (t u : Conns (List ℕ)) (d : ℕ) → conn_at u d ≡ conn_at t d → IsConnOf t d x → IsConnOf u d x
-kept_conn None t u d same is = subst (λ (k : Option (Kept (List ℕ))). IsIn None k) (sym same) is
-kept_conn (Some k) t u d same is = (subst (λ (j : Option (Kept (List ℕ))). IsIn (Some k.talk) j) (sym same) is.0, is.1)
+pub kept_conn : (R : Reads) (x : Option Conn) (t u : Conns (List ℕ)) (d : ℕ) (up : Option Upload) → conn_at u d ≡ conn_at t d → IsConnOf R t d up x → IsConnOf R u d up x
+kept_conn R None t u d up same is = (subst (λ (k : Option (Kept (List ℕ))). IsIn None k) (sym same) is.0, is.1)
+kept_conn R (Some k) t u d up same is = (subst (λ (j : Option (Kept (List ℕ))). IsIn (Some k.talk) j) (sym same) is.0, is.1)
+
+-- the uploads of all other connections stay
+abbrev pub KeepsUploads : ℕ → Uploads → Uploads → Type 0
+KeepsUploads c ups vps = (d : ℕ) → (c ≡ d → ⊥) → vps d ≡ ups d
+
+pub updated_uploads : (ups : Uploads) (c : ℕ) (up : Option Upload) → KeepsUploads c ups (update nat_eq ups c up)
+updated_uploads ups c up d apart = ap (λ b. cond b up (ups d)) (ne_eqb c d apart)
+
+pub updated_here : {X : Type 0} (f : ℕ → Option X) (c : ℕ) (x : Option X) → update nat_eq f c x c ≡ x
+updated_here f c x = ap (λ b. cond b x (f c)) (eq-eqb c c refl)
 
 -- one connection changes in the table and in the world
-pub each_set : (t u : Conns (List ℕ)) (f : ℕ → Option Conn) (c : ℕ) (x : Option Conn) → ((d : ℕ) → IsConnOf t d (f d)) → KeepsOthers c t u → IsConnOf u c x
-    → (d : ℕ) → IsConnOf u d (update nat_eq f c x d)
-each_set t u f c x each others here = changed (IsConnOf u) f c x here (λ d apart. kept_conn (f d) t u d (others d (λ e. apart (sym e))) (each d))
+pub each_set : (R : Reads) (t u : Conns (List ℕ)) (f : ℕ → Option Conn) (ups vps : Uploads) (c : ℕ) (x : Option Conn) → ((d : ℕ) → IsConnOf R t d (ups d) (f d)) → KeepsOthers c t u → KeepsUploads c ups vps → IsConnOf R u c (vps c) x
+    → (d : ℕ) → IsConnOf R u d (vps d) (update nat_eq f c x d)
+each_set R t u f ups vps c x each others kept here = changed (λ d y. IsConnOf R u d (vps d) y) f c x here
+    (λ d apart. subst (λ up. IsConnOf R u d up (f d)) (sym (kept d apart)) (kept_conn R (f d) t u d (ups d) (others d (λ e. apart (sym e))) (each d)))
 
 -- the same, where it changed in the world already
-pub each_again : (t u : Conns (List ℕ)) (f : ℕ → Option Conn) (c : ℕ) (x y : Option Conn) → ((d : ℕ) → IsConnOf t d (update nat_eq f c y d)) → KeepsOthers c t u → IsConnOf u c x
-    → (d : ℕ) → IsConnOf u d (update nat_eq f c x d)
-each_again t u f c x y each others here = changed (IsConnOf u) f c x here (λ d apart. kept_conn (f d) t u d (others d (λ e. apart (sym e))) (subst (λ b. IsConnOf t d (cond b y (f d))) (apart_eqb c d apart) (each d)))
-  where
-    apart_eqb : (c d : ℕ) → (c ≡ d → ⊥) → nat_eq c d ≡ false
-    apart_eqb c d apart = ne_eqb c d apart
+pub each_again : (R : Reads) (t u : Conns (List ℕ)) (f : ℕ → Option Conn) (ups vps : Uploads) (c : ℕ) (x y : Option Conn) → ((d : ℕ) → IsConnOf R t d (ups d) (update nat_eq f c y d)) → KeepsOthers c t u → KeepsUploads c ups vps → IsConnOf R u c (vps c) x
+    → (d : ℕ) → IsConnOf R u d (vps d) (update nat_eq f c x d)
+each_again R t u f ups vps c x y each others kept here = changed (λ d z. IsConnOf R u d (vps d) z) f c x here
+    (λ d apart. subst (λ up. IsConnOf R u d up (f d)) (sym (kept d apart)) (kept_conn R (f d) t u d (ups d) (others d (λ e. apart (sym e))) (subst (λ b. IsConnOf R t d (ups d) (cond b y (f d))) (ne_eqb c d apart) (each d))))
 
 -- what stands at the number that changed
-pub set_here : (t : Conns (List ℕ)) (f : ℕ → Option Conn) (c : ℕ) (x : Option Conn) → ((d : ℕ) → IsConnOf t d (update nat_eq f c x d)) → IsConnOf t c x
-set_here t f c x each = subst (λ b. IsConnOf t c (cond b x (f c))) (eq-eqb c c refl) (each c)
+pub set_here : (R : Reads) (t : Conns (List ℕ)) (ups : Uploads) (f : ℕ → Option Conn) (c : ℕ) (x : Option Conn) → ((d : ℕ) → IsConnOf R t d (ups d) (update nat_eq f c x d)) → IsConnOf R t c (ups c) x
+set_here R t ups f c x each = subst (IsConnOf R t c (ups c)) (updated_here f c x) (each c)
 
 -- a connection that has what it has is set to it
-pub set_same : (t : Conns (List ℕ)) (f : ℕ → Option Conn) (c : ℕ) (x : Option Conn) → f c ≡ x → ((d : ℕ) → IsConnOf t d (f d)) → (d : ℕ) → IsConnOf t d (update nat_eq f c x d)
-set_same t f c x is each = changed (IsConnOf t) f c x (subst (IsConnOf t c) is (each c)) (λ d apart. each d)
+pub set_same : (R : Reads) (t : Conns (List ℕ)) (ups : Uploads) (f : ℕ → Option Conn) (c : ℕ) (x : Option Conn) → f c ≡ x → ((d : ℕ) → IsConnOf R t d (ups d) (f d)) → (d : ℕ) → IsConnOf R t d (ups d) (update nat_eq f c x d)
+set_same R t ups f c x is each = changed (λ d y. IsConnOf R t d (ups d) y) f c x (subst (IsConnOf R t c (ups c)) is (each c)) (λ d apart. each d)
 
 -- ---- the reply that is pending
 
@@ -82,33 +93,37 @@ reply_in : (a : Talk (List ℕ)) (x : Option (Pending (List ℕ))) (j : Kept (Li
 reply_in a None j q is idle some = absurd (cc (sym idle.reply_is ∙ some))
 reply_in a (Some p) j q is answered some = (p, is, some_same q (shown_as a.told p) (sym some ∙ answered.reply_is))
 
-pending_in : (t : Conns (List ℕ)) (w : World) (c : ℕ) (q : Pending (List ℕ)) (x : Option Conn) (j : Option (Kept (List ℕ))) → w.conns c ≡ x → conn_at t c ≡ j → IsConnOf t c x → option_and_then (λ (i : Kept (List ℕ)). i.reply) j ≡ Some q → HasPending t w c q
-pending_in t w c q x None found at is some = absurd (cc some)
-pending_in t w c q None (Some j) found at is some = absurd (subst (λ i. IsIn None i) at is)
-pending_in t w c q (Some k) (Some j) found at is some =
+pending_in : (R : Reads) (t : Conns (List ℕ)) (up : Option Upload) (w : World) (c : ℕ) (q : Pending (List ℕ)) (x : Option Conn) (j : Option (Kept (List ℕ))) → w.conns c ≡ x → conn_at t c ≡ j → IsConnOf R t c up x → option_and_then (λ (i : Kept (List ℕ)). i.reply) j ≡ Some q → HasPending t w c q
+pending_in R t up w c q x None found at is some = absurd (cc some)
+pending_in R t up w c q None (Some j) found at is some = absurd (subst (λ i. IsIn None i) at is.0)
+pending_in R t up w c q (Some k) (Some j) found at is some =
     let (p, reply, same) = reply_in k.talk k.talk.reply j q refl (subst (λ i. IsIn (Some k.talk) i) at is.0) some in
     record { k = k; p = p; found = found; reply = reply; shown_is = same; is_talk = is.0 }
 
-pub has_pending : (t : Conns (List ℕ)) (w : World) (c : ℕ) (q : Pending (List ℕ)) → ((d : ℕ) → IsConnOf t d (w.conns d)) → pending_at t c ≡ Some q → HasPending t w c q
-has_pending t w c q each some = pending_in t w c q (w.conns c) (conn_at t c) refl refl (each c) some
+pub has_pending : (R : Reads) (ups : Uploads) (t : Conns (List ℕ)) (w : World) (c : ℕ) (q : Pending (List ℕ)) → ((d : ℕ) → IsConnOf R t d (ups d) (w.conns d)) → pending_at t c ≡ Some q → HasPending t w c q
+has_pending R ups t w c q each some = pending_in R t (ups c) w c q (w.conns c) (conn_at t c) refl refl (each c) some
 
 -- a connection of the world that is found, or isn't
-none_at : (t : Conns (List ℕ)) (c : ℕ) (x : Option Conn) (j : Option (Kept (List ℕ))) → conn_at t c ≡ j → false ≡ is_some j → IsConnOf t c x → x ≡ None
-none_at t c None j at closed is = refl
-none_at t c (Some k) None at closed is = absurd (subst (λ i. IsIn (Some k.talk) i) at is.0)
-none_at t c (Some k) (Some j) at closed is = absurd (false≢true closed)
+none_at : (R : Reads) (t : Conns (List ℕ)) (c : ℕ) (up : Option Upload) (x : Option Conn) (j : Option (Kept (List ℕ))) → conn_at t c ≡ j → false ≡ is_some j → IsConnOf R t c up x → x ≡ None
+none_at R t c up None j at closed is = refl
+none_at R t c up (Some k) None at closed is = absurd (subst (λ i. IsIn (Some k.talk) i) at is.0)
+none_at R t c up (Some k) (Some j) at closed is = absurd (false≢true closed)
 
-pub closed_none : (t : Conns (List ℕ)) (c : ℕ) (x : Option Conn) → false ≡ is_some (conn_at t c) → IsConnOf t c x → x ≡ None
-closed_none t c x closed is = none_at t c x (conn_at t c) refl closed is
+pub closed_none : (R : Reads) (t : Conns (List ℕ)) (c : ℕ) (up : Option Upload) (x : Option Conn) → false ≡ is_some (conn_at t c) → IsConnOf R t c up x → x ≡ None
+closed_none R t c up x closed is = none_at R t c up x (conn_at t c) refl closed is
 
-some_at : (t : Conns (List ℕ)) (c : ℕ) (x : Option Conn) (j : Option (Kept (List ℕ))) → conn_at t c ≡ j → true ≡ is_some j → IsConnOf t c x → (k : Conn) × (x ≡ Some k) × IsTalk t c (Some k.talk) × IsIdle k.talk
-some_at t c None None at found is = absurd (false≢true (sym found))
-some_at t c None (Some j) at found is = absurd (subst (λ i. IsIn None i) at is)
-some_at t c (Some k) j at found is = (k, refl, is.0, is.1)
+-- what is known of a connection that is open
+abbrev pub Opened : Reads → Conns (List ℕ) → ℕ → Option Upload → Option Conn → Type 0
+Opened R t c up x = (k : Conn) × (x ≡ Some k) × IsTalk t c (Some k.talk) × IsIdle R up k.talk
 
-pub open_some : (t : Conns (List ℕ)) (c : ℕ) (x : Option Conn) → true ≡ is_some (conn_at t c) → IsConnOf t c x → (k : Conn) × (x ≡ Some k) × IsTalk t c (Some k.talk) × IsIdle k.talk
-open_some t c x found is = some_at t c x (conn_at t c) refl found is
+some_at : (R : Reads) (t : Conns (List ℕ)) (c : ℕ) (up : Option Upload) (x : Option Conn) (j : Option (Kept (List ℕ))) → conn_at t c ≡ j → true ≡ is_some j → IsConnOf R t c up x → Opened R t c up x
+some_at R t c up None None at found is = absurd (false≢true (sym found))
+some_at R t c up None (Some j) at found is = absurd (subst (λ i. IsIn None i) at is.0)
+some_at R t c up (Some k) j at found is = (k, refl, is.0, is.1)
 
--- the talk of an found connection
-pub open_talk : (t : Conns (List ℕ)) (c : ℕ) (x : Option Conn) (k : Conn) → x ≡ Some k → IsConnOf t c x → IsTalk t c (Some k.talk)
-open_talk t c x k found is = (subst (IsConnOf t c) found is).0
+pub open_some : (R : Reads) (t : Conns (List ℕ)) (c : ℕ) (up : Option Upload) (x : Option Conn) → true ≡ is_some (conn_at t c) → IsConnOf R t c up x → Opened R t c up x
+open_some R t c up x found is = some_at R t c up x (conn_at t c) refl found is
+
+-- the talk of a connection that is open
+pub open_talk : (R : Reads) (t : Conns (List ℕ)) (c : ℕ) (up : Option Upload) (x : Option Conn) (k : Conn) → x ≡ Some k → IsConnOf R t c up x → IsTalk t c (Some k.talk)
+open_talk R t c up x k found is = (subst (IsConnOf R t c up) found is).0

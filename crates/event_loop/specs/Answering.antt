@@ -1,13 +1,17 @@
--- What answers whole requests: the version machine, one step a request.
-use Rattle.std.specs.Prelude.{◌≡◌, ◌<◌, ◌^◌, ℕ, Bool, false, List, length, Option, None, Some, ⊤}
+-- What answers requests: the version machine, one step a request, and two an upload.
+use Rattle.std.specs.Prelude.{◌≡◌, ◌<◌, ◌^◌, ℕ, nat_eq, Bool, true, false, List, [], ◌++◌, length, Option, None, Some, option_map, ⊤}
+use Rattle.std.specs.Map.{update}
 use Rattle.b2_types.specs.declared.call.Call.{Call}
+use Rattle.b2_types.specs.declared.upload.UploadCall.{UploadCall}
 use Rattle.b2_types.specs.declared.answer.AnswerOf.{AnswerOf}
 use Rattle.b2_types.specs.declared.answer.AnswerOf.TheVariants as answer
 use Rattle.b2_types.specs.Fault.{plain}
 use Rattle.b2_model.specs.State.{State}
-use Rattle.b2_model.specs.Run.{Progress, asks, step, answer_to, of_bytes}
+use Rattle.b2_model.specs.Body.{body_of}
+use Rattle.b2_model.specs.Run.{Progress, Step, asks, begins, ends, step, answer_to, of_bytes}
 use Rattle.call_paths.specs.Path.{IsRouted}
 use Rattle.http_edge.specs.declared.head.Head.{Head}
+use Rattle.http_edge.specs.Length.{is_upload}
 use Rattle.http_edge.specs.Reply.{reply_of}
 use Rattle.conn_talk.specs.declared.act.Act.{Act}
 use Rattle.conn_talk.specs.declared.act.Act.TheVariants as act
@@ -19,24 +23,84 @@ use Rattle.served_world.specs.Replies.{Reads}
 abbrev pub ReadsCall : Type 1
 ReadsCall = Head → List ℕ → Option (List ℕ) → Call → Type 0
 
--- requests are read so; none is an upload
-abbrev pub calls_alone : ReadsCall → Reads
-calls_alone call = record { call = call; upload = λ head token u. ⊥ }
+-- which upload a request with this head is, and which token it gives
+abbrev pub ReadsUpload : Type 1
+ReadsUpload = Head → Option (List ℕ) → UploadCall → Type 0
+
+abbrev pub reads : ReadsCall → ReadsUpload → Reads
+reads call upload = record { call = call; upload = upload }
 
 -- the request is for a call that is served
 abbrev pub IsServedHead : Head → Type 0
 IsServedHead head = IsRouted head.request.method head.request.path head.route
 
--- The text is what the machine answers to the request: one step of its own, after which the state and the words
--- that are left are these.
-pub record IsAnswer (call : ReadsCall) (now : State (List ℕ) → List ℕ → Type 0) (P : Progress (List ℕ)) (reading : ℕ) (head : Head) (body text : List ℕ) : Type 0 where
+-- ---- the machine, and the uploads under way
+
+-- an upload that began, and what came of its body
+pub record Upload : Type 0 where
+  pub call : UploadCall
+  pub came : List ℕ
+
+-- the upload of each connection
+abbrev pub Uploads : Type 0
+Uploads = ℕ → Option Upload
+
+abbrev pub none_under_way : Uploads
+none_under_way c = None
+
+-- what answers is the machine at this state; these words are left, and these uploads are under way
+abbrev pub At : Type 1
+At = State (List ℕ) → List ℕ → Uploads → Type 0
+
+-- more of the body of the connection's upload came, where one is under way
+abbrev pub with_bytes : List ℕ → Option Upload → Option Upload
+with_bytes bytes up = option_map (λ (u : Upload). record u { came = u.came ++ bytes }) up
+
+abbrev pub with_piece : Uploads → ℕ → List ℕ → Uploads
+with_piece ups c bytes = update nat_eq ups c (with_bytes bytes (ups c))
+
+-- it is at the machine after the step, with these uploads
+abbrev pub IsAfter : At → Progress (List ℕ) → Step (List ℕ) → Uploads → Type 0
+IsAfter now P s ups = now (step of_bytes P s).state (step of_bytes P s).words ups
+
+-- ---- answers
+
+-- The text is what the machine answers to the request: one step of its own.
+pub record IsAnswer (call : ReadsCall) (now : At) (ups : Uploads) (P : Progress (List ℕ)) (reading : ℕ) (head : Head) (body text : List ℕ) : Type 0 where
   pub token : Option (List ℕ)
   pub asked : Call
   pub told : AnswerOf (List ℕ)
   pub read : call head body token asked
   pub answers : answer_to of_bytes P (asks reading token asked) ≡ Some told
-  pub after : now (step of_bytes P (asks reading token asked)).state (step of_bytes P (asks reading token asked)).words
+  pub after : IsAfter now P (asks reading token asked) ups
   pub text_is : text ≡ reply_of told head.request.stay
+
+-- the upload of a connection after one was to begin on it: one that was under way stays, and one that is refused
+-- never is
+abbrev pub begun_on : Option Upload → UploadCall → Option (AnswerOf (List ℕ)) → Option Upload
+begun_on (Some old) u told = Some old
+begun_on None u (Some told) = None
+begun_on None u None = Some (record { call = u; came = [] })
+
+abbrev pub uploads_after : Uploads → ℕ → UploadCall → Option (AnswerOf (List ℕ)) → Uploads
+uploads_after ups c u told = update nat_eq ups c (begun_on (ups c) u told)
+
+-- The machine begins the upload; where it refuses it, the text is the refusal, with which the connection closes.
+pub record IsBegun (upload : ReadsUpload) (now : At) (ups : Uploads) (P : Progress (List ℕ)) (reading c : ℕ) (head : Head) (refused : Option (List ℕ)) : Type 0 where
+  pub token : Option (List ℕ)
+  pub call : UploadCall
+  pub told : Option (AnswerOf (List ℕ))
+  pub read : upload head token call
+  pub answers : answer_to of_bytes P (begins reading c token call) ≡ told
+  pub after : IsAfter now P (begins reading c token call) (uploads_after ups c call told)
+  pub text_is : refused ≡ option_map (λ a. reply_of a false) told
+
+-- The machine ends the upload with the body that came, and the text is what it answers.
+pub record IsEnded (now : At) (ups : Uploads) (P : Progress (List ℕ)) (reading c : ℕ) (stay : Bool) (text : Option (List ℕ)) (u : Upload) : Type 0 where
+  pub told : AnswerOf (List ℕ)
+  pub answers : answer_to of_bytes P (ends reading c (body_of u.call u.came)) ≡ Some told
+  pub after : IsAfter now P (ends reading c (body_of u.call u.came)) (update nat_eq ups c None)
+  pub text_is : text ≡ Some (reply_of told stay)
 
 -- the answer sends no content
 abbrev pub IsText : AnswerOf (List ℕ) → Type 0
@@ -46,11 +110,13 @@ IsText (answer.Refused fault) = ⊤
 
 -- ---- acts
 
--- an act that is answered at once: a request that came whole, or whose form is refused
-abbrev pub IsAnswerable : Act → Type 0
-IsAnswerable (act.Whole head body) = IsServedHead head
-IsAnswerable (act.Refuse fault) = fault ≡ plain fault.kind
-IsAnswerable other = ⊥
+-- an act is of a request that is served
+abbrev pub IsServedAct : Act → Type 0
+IsServedAct (act.Whole head body) = IsServedHead head
+IsServedAct (act.Begin head) = IsServedHead head × (is_upload head.route.name ≡ true)
+IsServedAct (act.Body bytes) = ⊤
+IsServedAct act.End = ⊤
+IsServedAct (act.Refuse fault) = fault ≡ plain fault.kind
 
 -- a reply of which nothing was sent
 abbrev pub pending : List ℕ → Bool → Pending (List ℕ)
@@ -60,9 +126,3 @@ pub record IsUnsent (p : Pending (List ℕ)) : Type 0 where
   pub some : 0 < length p.text
   pub none_sent : p.sent ≡ 0
   pub small : size_of p < 2 ^ 64
-
--- the reply to an act: the machine's answer, or a refusal of the form, which is no step
-abbrev pub IsReplyTo : ReadsCall → (State (List ℕ) → List ℕ → Type 0) → Progress (List ℕ) → ℕ → Act → Pending (List ℕ) → Type 0
-IsReplyTo call now P reading (act.Whole head body) p = (text : List ℕ) × IsAnswer call now P reading head body text × (p ≡ pending text head.request.stay)
-IsReplyTo call now P reading (act.Refuse fault) p = now P.state P.words × (p ≡ pending (reply_of (answer.Refused fault) false) false)
-IsReplyTo call now P reading other p = ⊥

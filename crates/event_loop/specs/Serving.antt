@@ -1,35 +1,50 @@
 -- A table of connections, what answers requests and what was sent, seen as a world.
-use Rattle.std.specs.Prelude.{◌≡◌, ℕ, List, [], Option, None, Some, option_map, unwrap_or, MatchOption, length, ⊤}
+use Rattle.std.specs.Prelude.{◌≡◌, ◌+◌, ℕ, List, [], Option, None, Some, option_map, unwrap_or, MatchOption, length}
 use Rattle.outside_traits.specs.declared.link.Event.{Event}
 use Rattle.outside_traits.specs.declared.link.Event.TheVariants as event
 use Rattle.outside_traits.specs.declared.link.SentPiece.{SentPiece}
 use Rattle.outside_traits.specs.declared.link.MemLink.{MemLink}
 use Rattle.outside_traits.specs.Memory.{link_calls, link_gone}
-use Rattle.b2_model.specs.State.{State}
-use Rattle.conn_talk.specs.Asked.{nothing}
-use Rattle.conn_talk.specs.Talk.{Talk}
+use Rattle.http_edge.specs.declared.head.Head.{Head}
+use Rattle.conn_talk.specs.Asked.{Asked, nothing, refused, begun, complete, IsAsked}
+use Rattle.conn_talk.specs.Talk.{Talk, first_talk}
 use Rattle.conn_table.specs.declared.table.Conns.{Conns}
-use Rattle.conn_table.specs.Table.{count_of, IsTalk}
+use Rattle.conn_table.specs.Table.{count_of, IsTalk, KeepsOthers}
 use Rattle.served_world.specs.Replies.{Reads}
-use Rattle.served_world.specs.World.{Conn, World, Happens, handed, opened, IsPiece}
+use Rattle.served_world.specs.World.{Conn, World, Happens, handed, gone, IsPiece}
+use Rattle.event_loop.specs.Answering.{At, Upload, Uploads}
 
--- nothing is told of a request that has no reply: it is not whole, and no upload began
-abbrev pub IsIdle : Talk (List ℕ) → Type 0
-IsIdle a = MatchOption a.reply (a.told ≡ nothing) (λ p. ⊤)
+-- the upload whose head and bytes came is under way
+pub record IsUnderWay (R : Reads) (head : Head) (came : List ℕ) (u : Upload) : Type 0 where
+  pub token : Option (List ℕ)
+  pub read : R.upload head token u.call
+  pub came_is : u.came ≡ came
 
-abbrev pub IsConnOf : Conns (List ℕ) → ℕ → Option Conn → Type 0
-IsConnOf t c None = IsTalk t c None
-IsConnOf t c (Some k) = IsTalk t c (Some k.talk) × IsIdle k.talk
+-- Of a request without a reply either nothing is told, or its upload is under way.
+abbrev pub Awaits : Reads → ℕ → List ℕ → Option Upload → Asked → Type 0
+Awaits R before got up nothing = up ≡ None
+Awaits R before got up (refused kind) = ⊥
+Awaits R before got up (begun head came) = IsAsked before got (begun head came) × MatchOption up ⊥ (IsUnderWay R head came)
+Awaits R before got up (complete head body rest) = ⊥
 
--- the table has the connections of the world
-pub record IsTable (t : Conns (List ℕ)) (w : World) : Type 0 where
-  pub each : (c : ℕ) → IsConnOf t c (w.conns c)
+-- and no upload is under way while a reply is pending
+abbrev pub IsIdle : Reads → Option Upload → Talk (List ℕ) → Type 0
+IsIdle R up a = MatchOption a.reply (Awaits R a.before a.got up a.told) (λ p. up ≡ None)
+
+abbrev pub IsConnOf : Reads → Conns (List ℕ) → ℕ → Option Upload → Option Conn → Type 0
+IsConnOf R t c up None = IsTalk t c None × (up ≡ None)
+IsConnOf R t c up (Some k) = IsTalk t c (Some k.talk) × IsIdle R up k.talk
+
+-- the table has the connections of the world, and these are their uploads
+pub record IsTable (R : Reads) (ups : Uploads) (t : Conns (List ℕ)) (w : World) : Type 0 where
+  pub each : (c : ℕ) → IsConnOf R t c (ups c) (w.conns c)
   pub count : count_of t ≡ w.count
 
 -- and the machine is where it is there
-pub record IsWorld (now : State (List ℕ) → List ℕ → Type 0) (t : Conns (List ℕ)) (w : World) : Type 0 where
-  pub machine : now w.machine.state w.machine.words
-  pub table : IsTable t w
+pub record IsWorld (R : Reads) (now : At) (t : Conns (List ℕ)) (w : World) : Type 0 where
+  pub uploads : Uploads
+  pub machine : now w.machine.state w.machine.words uploads
+  pub table : IsTable R uploads t w
 
 -- no call of the link is to fail, and no send to be lost: each send takes all its bytes
 pub record IsWilling (link : MemLink) : Type 0 where
@@ -47,19 +62,24 @@ all_taken w (event.Ready c) = Some (handed_on (w.conns c))
 all_taken w other = Some 0
 
 -- what is done without the link, of which no more is sent
-abbrev pub Steps : (State (List ℕ) → List ℕ → Type 0) → Conns (List ℕ) → (World → World → Type 0) → (State (List ℕ) → List ℕ → Type 0) → Conns (List ℕ) → Type 0
-Steps was t does now u = (w : World) → IsWorld was t w → (v : World) × does w v × IsWorld now u v × (v.sends ≡ w.sends)
+abbrev pub Steps : Reads → At → Conns (List ℕ) → (World → World → Type 0) → At → Conns (List ℕ) → Type 0
+Steps R was t does now u = (w : World) → IsWorld R was t w → (v : World) × does w v × IsWorld R now u v × (v.sends ≡ w.sends)
 
 -- what the event makes of each world that it was, and of what was sent
-abbrev pub Serves : Reads → ℕ → Event → (State (List ℕ) → List ℕ → Type 0) → Conns (List ℕ) → List SentPiece → (State (List ℕ) → List ℕ → Type 0) → Conns (List ℕ) → List SentPiece → Type 0
+abbrev pub Serves : Reads → ℕ → Event → At → Conns (List ℕ) → List SentPiece → At → Conns (List ℕ) → List SentPiece → Type 0
 Serves R reading e was t before now u after =
-    (w : World) → IsWorld was t w → before ≡ w.sends → (v : World) × Happens R reading (all_taken w e) w e v × IsWorld now u v × (after ≡ v.sends)
+    (w : World) → IsWorld R was t w → before ≡ w.sends → (v : World) × Happens R reading (all_taken w e) w e v × IsWorld R now u v × (after ≡ v.sends)
 
 -- bytes come on a connection, which do nothing where it isn't open
 abbrev pub Takes : Reads → ℕ → ℕ → List ℕ → World → World → Type 0
 Takes R reading c bytes w v = MatchOption (w.conns c) (v ≡ w) (λ k. IsPiece R reading w c k bytes v)
 
--- a connection opens, or is sent nothing and closed where as many are open as may be
-abbrev pub Opens : ℕ → Conns (List ℕ) → List SentPiece → Conns (List ℕ) → List SentPiece → Type 0
-Opens c t before u after =
-    (w : World) → IsTable t w → before ≡ w.sends → (v : World) × MatchOption (w.conns c) (v ≡ opened w c (Some 0)) (λ _. v ≡ w) × IsTable u v × (after ≡ v.sends)
+-- it is lost
+abbrev pub Loses : ℕ → ℕ → World → World → Type 0
+Loses reading c w v = MatchOption (w.conns c) (v ≡ w) (λ k. v ≡ gone reading w c k)
+
+-- a connection opened
+pub record HasOpened (c : ℕ) (t u : Conns (List ℕ)) : Type 0 where
+  pub talk : IsTalk u c (Some first_talk)
+  pub others : KeepsOthers c t u
+  pub count : count_of u ≡ count_of t + 1

@@ -1,6 +1,7 @@
 //! What a server does at each event on its connections.
 #![tactic(auto)]
 
+mod acts;
 mod answering;
 mod bytes;
 mod events;

@@ -5,7 +5,7 @@ ghost use Rattle.outside_traits.specs.Lists.{clock_ahead};
 ghost use Rattle.outside_traits.specs.Memory.{link_ahead, link_sent};
 ghost use Rattle.b2_model.specs.State.{State};
 ghost use Rattle.served_world.specs.World.{start};
-ghost use Rattle.event_loop.specs.Answering.{calls_alone};
+ghost use Rattle.event_loop.specs.Answering.{none_under_way, reads};
 ghost use Rattle.event_loop.specs.Serving.{IsWilling};
 ghost use Rattle.event_loop.specs.Turns.{HasRun};
 
@@ -24,13 +24,14 @@ pub fn serve<S: Answering>(
     clock: &mut ListClock,
     turns: usize,
 ) -> Result<(), Memory>
-    requires somewhere { (M : State (List ℕ)) × (words : List ℕ) × S.at store.old M words }
+    requires somewhere { (M : State (List ℕ)) × (words : List ℕ)
+        × S.at store.old M words none_under_way }
     requires willing { IsWilling link.old }
     requires unsent { link_sent link.old ≡ [] }
     requires events { turns ≡ length (link_ahead link.old) }
     requires readings { turns ≡ length (clock_ahead clock.old) }
-    ensures { OnOk result ((M : State (List ℕ)) (words : List ℕ) → S.at store.old M words
-        → HasRun (calls_alone S.call) (start M words) (link_ahead link.old)
+    ensures { OnOk result ((M : State (List ℕ)) (words : List ℕ) → S.at store.old M words none_under_way
+        → HasRun (reads S.call S.upload) (start M words) (link_ahead link.old)
         (clock_ahead clock.old) (link_sent link.new)) }
 {
     let mut conns = Conns::new(alloc);
