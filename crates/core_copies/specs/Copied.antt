@@ -14,7 +14,7 @@ use Rattle.new_versions.specs.Decided.{extent_len}
 use Rattle.copy_calls.specs.Copied.{IsBody}
 use Rattle.copy_calls.specs.declared.file.CopiedBytes.{CopiedBytes}
 use Rattle.core_decisions.specs.declared.decision.Decision.{Decision}
-use Rattle.core_decisions.specs.Decided.{Copies, at_extents, outcome}
+use Rattle.core_decisions.specs.Decided.{Copies, IsWritable, at_extents, outcome}
 use Rattle.core_copies.specs.declared.plan.CopyPlan.{CopyPlan}
 
 -- no rule refuses the call, whatever a copy makes
@@ -34,4 +34,5 @@ Makes copy M source range bytes = (version : VersionOf Extent) → version_at M 
 
 -- the machine does and answers just so where a copy makes these bytes, and draws no random word
 unfoldable pub IsCopyDecision : State Extent → ℕ → Option (List ℕ) → Call → VersionId → Option ByteRange → CopiedBytes → Decision → Type 0
-IsCopyDecision M t token c source range bytes d = (copy : Copies) (words : List ℕ) → Makes copy M source range bytes → ask (at_extents copy) M t words token c ≡ outcome M t words d
+IsCopyDecision M t token c source range bytes d =
+    IsWritable M c d × ((copy : Copies) (words : List ℕ) → Makes copy M source range bytes → ask (at_extents copy) M t words token c ≡ outcome M t words d)

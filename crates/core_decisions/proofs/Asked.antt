@@ -1,16 +1,20 @@
 -- A call is decided by the first of its refusals, or by its plan.
-use Rattle.std.proofs.Common.{◌≡◌, ℕ, List, Option, Some, None, sym, ap, ◌∙◌}
+use Rattle.std.proofs.Common.{◌≡◌, ℕ, List, [], Option, Some, None, sym, ap, subst, ◌∙◌}
 use Rattle.b2_base.specs.declared.extent.Extent.{Extent}
 use Rattle.b2_types.specs.declared.fault.Fault.{Fault}
 use Rattle.b2_types.specs.declared.call.Call.{Call}
 use Rattle.b2_types.specs.declared.answer.AnswerOf.TheVariants as answer
 use Rattle.b2_types.specs.declared.shown.Shown.{Shown}
+use Rattle.b2_types.specs.declared.record.ChangeOf.{ChangeOf}
 use Rattle.b2_types.specs.declared.record.RecordOf.{RecordOf}
 use Rattle.b2_model.specs.Checks.{Check, first_fault}
-use Rattle.b2_model.specs.State.{State}
-use Rattle.b2_model.specs.Plan.{shows, writes}
+use Rattle.b2_model.specs.State.{State, Pieces}
+use Rattle.b2_model.specs.Plan.{Plan, shows, writes}
 use Rattle.b2_model.specs.Changes.{after_record}
 use Rattle.b2_model.specs.Ask.{at_moment, outcome_of, outcome_or_refusal, plan_of, refusals_of}
+use Rattle.sound_states.specs.Sound.{IsSound}
+use Rattle.sound_steps.specs.FitSteps.{Applies, IsFitCall}
+use Rattle.sound_steps.proofs.Outcomes.{ask_applies}
 use Rattle.core_decisions.specs.declared.decision.Decision.TheVariants as decision
 use Rattle.core_decisions.specs.Decided.{Copies, IsDecision, at_extents}
 
@@ -20,22 +24,39 @@ Refuses M t token c fault = (copy : Copies) (words : List ℕ) → first_fault (
 
 pub refused_is : (M : State Extent) (t : ℕ) (token : Option (List ℕ)) (c : Call) (fault : Fault) → Refuses M t token c (Some fault) → IsDecision M t token c (decision.Reply (answer.Refused fault))
 unfolding IsDecision
-refused_is M t token c fault refuses = λ copy words.
-    ap (outcome_or_refusal M t words (plan_of (at_extents copy) M t words token c)) (refuses copy words)
+refused_is M t token c fault refuses = (
+  tt,
+  λ copy words.
+      ap (outcome_or_refusal M t words (plan_of (at_extents copy) M t words token c)) (refuses copy words),
+)
 
 -- what is shown where nothing refuses it
 pub shown_is : (M : State Extent) (t : ℕ) (token : Option (List ℕ)) (c : Call) (own : List Check) (shown : Shown) → Refuses M t token c None
     → ((copy : Copies) (words : List ℕ) → plan_of (at_extents copy) M t words token c ≡ shows own shown) → IsDecision M t token c (decision.Reply (answer.Json shown))
 unfolding IsDecision
-shown_is M t token c own shown passes plan = λ copy words.
-    ap (outcome_or_refusal M t words (plan_of (at_extents copy) M t words token c)) (passes copy words)
-    ∙ ap (outcome_of M t words) (plan copy words)
+shown_is M t token c own shown passes plan = (
+  tt,
+  λ copy words.
+      ap (outcome_or_refusal M t words (plan_of (at_extents copy) M t words token c)) (passes copy words)
+      ∙ ap (outcome_of M t words) (plan copy words),
+)
+
+-- what an accepted call writes applies
+pub applies_by : (K : Pieces Extent) (M : State Extent) (t : ℕ) (words : List ℕ) (token : Option (List ℕ)) (c : Call) (own : List Check) (change : ChangeOf Extent) (shown : Shown) → first_fault (refusals_of K M t words token c) ≡ None
+    → plan_of K M t words token c ≡ writes own change shown → IsSound M → IsFitCall c → Applies M (Some change)
+applies_by K M t words token c own change shown passes plan sound fit = subst (λ (p : Plan Extent). Applies M p.change) plan (ask_applies K M t words token c sound fit passes)
+
+-- some copy
+abbrev pub no_copy : Copies
+no_copy content at len = record { content = record { at = 0; len = 0 }; digest = []; told = None }
 
 -- what is written
 pub written_is : (M : State Extent) (t : ℕ) (token : Option (List ℕ)) (c : Call) (r : RecordOf Extent) (shown : Shown) → Refuses M t token c None
     → ((copy : Copies) (words : List ℕ) → (own : List Check) × (plan_of (at_extents copy) M t words token c ≡ writes own r.change shown)) → r.at ≡ t → IsDecision M t token c (decision.Write r (answer.Json shown))
 unfolding IsDecision
-written_is M t token c r shown passes plan at = λ copy words.
-    ap (outcome_or_refusal M t words (plan_of (at_extents copy) M t words token c)) (passes copy words)
-    ∙ ap (outcome_of M t words) (plan copy words).1
-    ∙ ap (λ n. record { state = after_record (at_moment M t) (record { at = n; change = r.change }); answer = answer.Json shown; words = words }) (sym at)
+written_is M t token c r shown passes plan at = (
+  λ sound fit. applies_by (at_extents no_copy) M t [] token c (plan no_copy []).0 r.change shown (passes no_copy []) (plan no_copy []).1 sound fit,
+  λ copy words. ap (outcome_or_refusal M t words (plan_of (at_extents copy) M t words token c)) (passes copy words)
+      ∙ ap (outcome_of M t words) (plan copy words).1
+      ∙ ap (λ n. record { state = after_record (at_moment M t) (record { at = n; change = r.change }); answer = answer.Json shown; words = words }) (sym at),
+)

@@ -27,14 +27,14 @@ unfolding IsDecision
 undrawn M t token c ahead left d same is = subst (λ l. IsDrawn M t token c ahead l d) (sym same) (all ahead)
   where
     all : (o : Option (List ℕ)) → IsDrawn M t token c o o d
-    all None = comes_to M t token c None None (λ rest. outcome M t rest d) [] [] tt (λ copy. is copy [])
-    all (Some words) = comes_to M t token c (Some words) (Some words) (λ rest. outcome M t rest d) words words (refl, refl) (λ copy. is copy words)
+    all None = (is.0, comes_to M t token c None None (λ rest. outcome M t rest d) [] [] tt (λ copy. is.1 copy []))
+    all (Some words) = (is.0, comes_to M t token c (Some words) (Some words) (λ rest. outcome M t rest d) words words (refl, refl) (λ copy. is.1 copy words))
 
 -- a reply, and the state at the moment
 pub answered : (M : State Extent) (t : ℕ) (token : Option (List ℕ)) (c : Call) (ahead left : Option (List ℕ)) (N : State Extent) (told : AnswerOf Extent) → left ≡ ahead → N ≡ at_moment M t
     → IsDecision M t token c (decision.Reply told) → IsAnswer M t token c ahead left N told
 answered M t token c ahead left N told same state is =
-    subst (λ K. ComesTo M t token c ahead left (answering K told)) (sym state) (undrawn M t token c ahead left (decision.Reply told) same is)
+    subst (λ K. ComesTo M t token c ahead left (answering K told)) (sym state) (undrawn M t token c ahead left (decision.Reply told) same is).1
 
 -- ---- rules that stand first, for who asks, and then those of its own
 

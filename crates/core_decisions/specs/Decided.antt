@@ -7,6 +7,8 @@ use Rattle.b2_model.specs.Body.{Body}
 use Rattle.b2_model.specs.State.{State, Pieces}
 use Rattle.b2_model.specs.Changes.{after_record}
 use Rattle.b2_model.specs.Ask.{Outcome, ask, at_moment}
+use Rattle.sound_states.specs.Sound.{IsSound}
+use Rattle.sound_steps.specs.FitSteps.{Applies, IsFitCall}
 use Rattle.new_versions.specs.Decided.{extent_len}
 use Rattle.core_decisions.specs.declared.decision.Decision.{Decision}
 use Rattle.core_decisions.specs.declared.decision.Decision.TheVariants as decision
@@ -23,9 +25,15 @@ abbrev pub outcome : State Extent → ℕ → List ℕ → Decision → Outcome 
 outcome M t words (decision.Reply told) = record { state = at_moment M t; answer = told; words = words }
 outcome M t words (decision.Write r told) = record { state = after_record (at_moment M t) r; answer = told; words = words }
 
+-- What is written applies to the state, and is such as a record may tell, where the state is sound and the
+-- lifecycle rules of the call are such as a bucket may have.
+abbrev pub IsWritable : State Extent → Call → Decision → Type 0
+IsWritable M c (decision.Reply told) = ⊤
+IsWritable M c (decision.Write r told) = IsSound M → IsFitCall c → Applies M (Some r.change)
+
 -- the machine does and answers just so, and draws no random word
 unfoldable pub IsDecision : State Extent → ℕ → Option (List ℕ) → Call → Decision → Type 0
-IsDecision M t token c d = (copy : Copies) (words : List ℕ) → ask (at_extents copy) M t words token c ≡ outcome M t words d
+IsDecision M t token c d = IsWritable M c d × ((copy : Copies) (words : List ℕ) → ask (at_extents copy) M t words token c ≡ outcome M t words d)
 
 -- ---- with random words
 
@@ -42,7 +50,7 @@ ComesTo M t token c ahead left made =
 
 -- it does and answers just so
 abbrev pub IsDrawn : State Extent → ℕ → Option (List ℕ) → Call → Option (List ℕ) → Option (List ℕ) → Decision → Type 0
-IsDrawn M t token c ahead left d = ComesTo M t token c ahead left (λ rest. outcome M t rest d)
+IsDrawn M t token c ahead left d = IsWritable M c d × ComesTo M t token c ahead left (λ rest. outcome M t rest d)
 
 -- this is the state after it, and its answer
 abbrev pub answering : State Extent → AnswerOf Extent → List ℕ → Outcome Extent

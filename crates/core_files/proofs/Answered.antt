@@ -21,9 +21,12 @@ answered_is : (M : State Extent) (t : ℕ) (token : Option (List ℕ)) (c : Call
     → ((copy : Copies) (words : List ℕ) → first_fault (refusals_of (at_extents copy) M t words token c) ≡ None)
     → ((copy : Copies) (words : List ℕ) → plan_of (at_extents copy) M t words token c ≡ answers own told) → IsDecision M t token c (decision.Reply told)
 unfolding IsDecision
-answered_is M t token c own told passes plan = λ copy words.
-    ap (outcome_or_refusal M t words (plan_of (at_extents copy) M t words token c)) (passes copy words)
-    ∙ ap (outcome_of M t words) (plan copy words)
+answered_is M t token c own told passes plan = (
+  tt,
+  λ copy words.
+      ap (outcome_or_refusal M t words (plan_of (at_extents copy) M t words token c)) (passes copy words)
+      ∙ ap (outcome_of M t words) (plan copy words),
+)
 
 -- the first of all its refusals is that of its own rules
 pub replied_is : (M : State Extent) (t : ℕ) (token : Option (List ℕ)) (c : Call) (own : List Check) (told : AnswerOf Extent) (d : Decision)

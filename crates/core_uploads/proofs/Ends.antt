@@ -28,6 +28,8 @@ use Rattle.b2_model.specs.UploadSteps.{end_plan, file_end, flight_of, part_end, 
 use Rattle.machine_laws.specs.Rules.{end_refusals}
 use Rattle.sound_states.specs.Sound.{IsFor, IsSound, IsUnderWay}
 use Rattle.sound_states.proofs.Found.{found_has}
+use Rattle.sound_steps.specs.FitSteps.{Applies}
+use Rattle.sound_steps.proofs.Outcomes.{end_applies}
 use Rattle.new_versions.specs.Decided.{extent_len}
 use Rattle.core_policy.specs.Rules.{standing}
 use Rattle.core_policy.proofs.Order.{by_first, by_next}
@@ -40,18 +42,20 @@ use Rattle.core_uploads.specs.Uploads.{IsEnd}
 
 refused_is : (M : State Extent) (t : ℕ) (f : Flight) (body : Body Extent) (fault : Fault) → first_fault (end_refusals extent_len M t f body) ≡ Some fault → IsEnd M t f body (decision.Reply (answer.Refused fault))
 unfolding IsEnd
-refused_is M t f body fault refuses = λ words.
+refused_is M t f body fault refuses =
     let N = without_flight M t f.conn in
-    ap (outcome_or_refusal N t words (end_plan extent_len N t (caller_of N (Some f.token)).key body f.upload)) refuses
+    (tt, λ words. ap (outcome_or_refusal N t words (end_plan extent_len N t (caller_of N (Some f.token)).key body f.upload)) refuses)
 
 written_is : (M : State Extent) (t : ℕ) (f : Flight) (body : Body Extent) (r : RecordOf Extent) (own : List Check) (shown : Shown) → first_fault (end_refusals extent_len M t f body) ≡ None
     → end_plan extent_len (without_flight M t f.conn) t (caller_of M (Some f.token)).key body f.upload ≡ writes own r.change shown → r.at ≡ t → IsEnd M t f body (decision.Write r (answer.Json shown))
 unfolding IsEnd
-written_is M t f body r own shown passes plan at = λ words.
-    let N = without_flight M t f.conn in
-    ap (outcome_or_refusal N t words (end_plan extent_len N t (caller_of N (Some f.token)).key body f.upload)) passes
-    ∙ ap (outcome_of N t words) plan
-    ∙ ap (λ n. record { state = after_record (at_moment N t) (record { at = n; change = r.change }); answer = answer.Json shown; words = words }) (sym at)
+written_is M t f body r own shown passes plan at =
+    let N = without_flight M t f.conn in (
+      λ sound. subst (λ (p : Plan Extent). Applies N p.change) plan (end_applies extent_len M t f body sound passes),
+      λ words. ap (outcome_or_refusal N t words (end_plan extent_len N t (caller_of N (Some f.token)).key body f.upload)) passes
+          ∙ ap (outcome_of N t words) plan
+          ∙ ap (λ n. record { state = after_record (at_moment N t) (record { at = n; change = r.change }); answer = answer.Json shown; words = words }) (sym at),
+    )
 
 -- ---- what an upload looks up, and what its end comes to for what stands there
 
