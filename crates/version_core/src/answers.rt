@@ -9,7 +9,7 @@ ghost use Rattle.sound_steps.specs.FitSteps.{IsFitCall};
 ghost use Rattle.core_decisions.specs.Decided.{IsAnswer};
 ghost use Rattle.version_core.specs.Decided.{IsNoCopy};
 
-use crate::decide::decide;
+use crate::decisions::decide;
 use b2_base::{Memory, Moment};
 use b2_types::{Answer, Call, Record};
 use core_decisions::Decision;
@@ -19,12 +19,12 @@ use outside_traits::Words;
 use std::alloc::Global;
 
 // The state after a record that applies.
-fn written(alloc: Global, core: Core, record: Record) -> Result<Core, Memory>
-    requires fit { IsFitChange record.change }
-    requires applies { applies_change core record.change ≡ true }
-    ensures { IfOk result (λ next. next ≡ after_record core record) }
+fn after_writing(alloc: Global, core: Core, written: Record) -> Result<Core, Memory>
+    requires fit { IsFitChange written.change }
+    requires applies { applies_change core written.change ≡ true }
+    ensures { IfOk result (λ next. next ≡ after_record core written) }
 {
-    match apply(alloc, core, record)? {
+    match apply(alloc, core, written)? {
         Applied::Done(core, _) => Ok(core),
         Applied::CannotApply(_) => unreachable!(),
     }
@@ -50,8 +50,8 @@ pub fn ask<W: Words>(
     let (core, decision) = decide(alloc, core, t, luck, token, call)?;
     match decision {
         Decision::Reply(answer) => Ok((core, answer)),
-        Decision::Write(record, answer) => {
-            let core = written(alloc, core, record)?;
+        Decision::Write(written, answer) => {
+            let core = after_writing(alloc, core, written)?;
             Ok((core, answer))
         }
     }
