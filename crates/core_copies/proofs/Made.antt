@@ -48,7 +48,7 @@ pub made_for : {X : Type 0} (M : State Extent) (t : ℕ) (token : Option (List �
     → ((copy : Copies) (words : List ℕ) → None ≡ first_fault (own_of M t token c form copy words))
     → ((copy : Copies) (words : List ℕ) → Makes copy M source range bytes → (own : List Check) × (form.plan copy words x ≡ writes own r.change shown)) → r.at ≡ t
     → IsCopyDecision M t token c source range bytes (decision.Write r (answer.Json shown))
-unfolding IsCopyDecision
+unfolding IsCopyDecision these_bytes
 made_for M t token c form who x source range bytes r shown asks passes found own plan at =
     let none = λ (copy : Copies) (words : List ℕ). nothing_refuses M t token c form who copy words asks passes (own copy words) in
     let whole = λ (copy : Copies) (words : List ℕ) (makes : Makes copy M source range bytes). form.is copy words ∙ ap (or_absent form.absent (form.plan copy words)) found ∙ (plan copy words makes).1 in
@@ -59,3 +59,8 @@ made_for M t token c form who x source range bytes r shown asks passes found own
           ∙ ap (outcome_of M t words) (whole copy words makes)
           ∙ ap (λ n. record { state = after_record (at_moment M t) (record { at = n; change = r.change }); answer = answer.Json shown; words = words }) (sym at),
     )
+
+-- a fault of every copy
+pub every_copy : (T : Type 0) (e : Or Fault) (P : Copies → Fault → Type 0) → ((copy : Copies) → IfFault {T = T} (Err e) (P copy)) → IfFault {T = T} (Err e) (λ f. (copy : Copies) → P copy f)
+every_copy T or.Memory P all = tt
+every_copy T (or.Fault f) P all = λ copy. all copy
