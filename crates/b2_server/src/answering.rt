@@ -102,7 +102,7 @@ impl Answering for FirstStore {
         _c: ConnNum,
         _head: &Head,
     ) -> Result<Option<Blob>, Memory> {
-        unreachable!()
+        Ok(None)
     }
 
     fn piece(&mut self, _alloc: Global, _c: ConnNum, _bytes: &[u8]) -> Result<(), Memory> {

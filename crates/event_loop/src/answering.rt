@@ -49,9 +49,9 @@ pub trait Answering {
         c: ConnNum,
         head: &Head,
     ) -> Result<Option<Blob>, Memory>
-        requires served { IsServedHead head.now }
-        requires upload { is_upload head.now.route.name ≡ true }
-        ensures begun { (P : Progress (List ℕ)) (ups : Uploads) → at self.old P.state P.words ups
+        requires { IsServedHead head.now }
+        ensures begun { is_upload head.now.route.name ≡ true → (P : Progress (List ℕ))
+            (ups : Uploads) → at self.old P.state P.words ups
             → IfOk result (λ refused. IsBegun upload (at self.new) ups P reading c head.now refused) }
         ensures some { IfOk result (λ refused. MatchOption refused ⊤ (λ text. 0 < length text)) };
 
