@@ -1,0 +1,4 @@
+pub mod Items
+pub mod Held
+pub mod Changes
+pub mod Kept
