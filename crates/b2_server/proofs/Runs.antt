@@ -8,7 +8,7 @@ use Rattle.event_script.specs.Script.{script_words, script_events, script_readin
 use Rattle.event_script.specs.declared.script.Script.{Script}
 use Rattle.b2_model.specs.State.{State}
 use Rattle.served_world.specs.World.{start}
-use Rattle.event_loop.specs.Answering.{none_under_way}
+use Rattle.request_acts.specs.Answering.{none_under_way}
 use Rattle.event_loop.specs.Turns.{HasRun}
 use Rattle.b2_server.specs.Store.{fixed_store, opened_store, IsAt, IsQuiet}
 use Rattle.b2_server.specs.Answer.{reads}

@@ -25,7 +25,7 @@ use Rattle.call_paths.specs.declared.routes.Route.{Route}
 use Rattle.http_edge.specs.declared.head.Head.{Head}
 use Rattle.http_edge.specs.Reply.{reply_of}
 use Rattle.api_json.specs.Call.{HasCredentials}
-use Rattle.event_loop.specs.Answering.{IsAnswer, Uploads}
+use Rattle.request_acts.specs.Answering.{IsAnswer, Uploads}
 use Rattle.b2_server.specs.Store.{IsAt, IsQuiet, IsGranted, begun_at, granted, master_account}
 use Rattle.b2_server.specs.Answer.{IsCallOf, IsCall, after_asking, told_to, Tells, IsTold}
 use Rattle.b2_server.specs.declared.store.FirstStore.{FirstStore}

@@ -19,7 +19,7 @@ use Rattle.b2_model.specs.Run.{with_restart, with_daily_pass}
 use Rattle.auth_grants.specs.Tokens.{tokens}
 use Rattle.auth_grants.specs.declared.held.Held.{Held}
 use Rattle.auth_grants.specs.declared.grants.Terms.{Terms}
-use Rattle.event_loop.specs.Answering.{Uploads}
+use Rattle.request_acts.specs.Answering.{Uploads}
 use Rattle.b2_server.specs.declared.store.FirstStore.{FirstStore}
 
 -- its settings

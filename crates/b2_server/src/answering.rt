@@ -3,7 +3,7 @@
 ghost use Rattle.std.specs.Prelude.{◌≡◌, ◌<◌, ℕ, List, IfOk, length};
 ghost use Rattle.b2_model.specs.Run.{Progress};
 ghost use Rattle.http_edge.specs.Reply.{reply_of};
-ghost use Rattle.event_loop.specs.Answering.{IsServedHead, IsAnswer, IsText, Uploads};
+ghost use Rattle.request_acts.specs.Answering.{IsServedHead, IsAnswer, IsText, Uploads};
 ghost use Rattle.b2_server.specs.Answer.{IsCall, IsTold};
 ghost use Rattle.b2_server.specs.Store.{IsAt, IsQuiet};
 

@@ -1,10 +1,8 @@
 pub mod Lists
-pub mod Heads
 pub mod Tables
-pub mod Doing
-pub mod Made
 pub mod Reading
 pub mod Sending
+pub mod Fronts
 pub mod Ready
 pub mod Opening
 pub mod Loops

@@ -11,7 +11,7 @@ use Rattle.conn_table.specs.Table.{conn_at, count_of, IsIn}
 use Rattle.conn_table.specs.declared.conn.Conn.{Conn as Kept}
 use Rattle.served_world.specs.Replies.{Reads}
 use Rattle.served_world.specs.World.{Turn, World, start, Happens}
-use Rattle.event_loop.specs.Answering.{At, none_under_way}
+use Rattle.request_acts.specs.Answering.{At, none_under_way, none_read}
 use Rattle.event_loop.specs.Serving.{IsWorld, all_taken, Serves}
 use Rattle.event_loop.specs.Turns.{RunsWhole, HasRun}
 
@@ -68,7 +68,7 @@ served_more R first events left rest readings later after i last reading e was n
     }
 
 -- nothing was served yet
-pub served_none : (R : Reads) (M : State (List ℕ)) (words : List ℕ) (events : List Event) (readings : List ℕ) (now : At) (t : Conns (List ℕ)) (sent : List SentPiece) → now M words none_under_way → ((c : ℕ) → conn_at t c ≡ None) → count_of t ≡ 0 → sent ≡ []
+pub served_none : (R : Reads) (M : State (List ℕ)) (words : List ℕ) (events : List Event) (readings : List ℕ) (now : At) (t : Conns (List ℕ)) (sent : List SentPiece) → now M words none_under_way none_read → ((c : ℕ) → conn_at t c ≡ None) → count_of t ≡ 0 → sent ≡ []
     → HasServed R (start M words) events events readings readings 0 now t sent
 served_none R M words events readings now t sent at closed none unsent = record {
   turns = [];
@@ -77,7 +77,7 @@ served_none R M words events readings now t sent at closed none unsent = record 
   events_are = refl;
   readings_are = refl;
   so_many = refl;
-  at = record { uploads = none_under_way; machine = at; table = record { each = λ c. (subst (λ (j : Option (Kept (List ℕ))). IsIn None j) (sym (closed c)) (record {}), refl); count = none } };
+  at = record { uploads = none_under_way; contents = none_read; machine = at; table = record { each = λ c. (subst (λ (j : Option (Kept (List ℕ))). IsIn None j) (sym (closed c)) (record {}), refl, refl); count = none } };
   sends = unsent;
 }
 

@@ -1,4 +1,2 @@
-pub mod Answering
-pub mod Doing
 pub mod Serving
 pub mod Turns

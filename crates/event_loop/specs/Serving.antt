@@ -1,50 +1,65 @@
 -- A table of connections, what answers requests and what was sent, seen as a world.
-use Rattle.std.specs.Prelude.{◌≡◌, ◌+◌, ℕ, List, [], Option, None, Some, option_map, unwrap_or, MatchOption, length}
+use Rattle.std.specs.Prelude.{◌≡◌, ◌<◌, ◌+◌, ◌^◌, ◌==◌, ◌++◌, ◌∷◌, ◌&&◌, ℕ, not, List, [], Option, None, Some, option_map, unwrap_or, MatchOption, length}
 use Rattle.outside_traits.specs.declared.link.Event.{Event}
 use Rattle.outside_traits.specs.declared.link.Event.TheVariants as event
 use Rattle.outside_traits.specs.declared.link.SentPiece.{SentPiece}
 use Rattle.outside_traits.specs.declared.link.MemLink.{MemLink}
 use Rattle.outside_traits.specs.Memory.{link_calls, link_gone}
-use Rattle.http_edge.specs.declared.head.Head.{Head}
-use Rattle.conn_talk.specs.Asked.{Asked, nothing, refused, begun, complete, IsAsked}
-use Rattle.conn_talk.specs.Talk.{Talk, first_talk}
+use Rattle.outside_traits.specs.Links.{front_sent}
+use Rattle.conn_talk.specs.declared.pending.Pending.{Pending}
+use Rattle.conn_talk.specs.Talk.{Talk, first_talk, size_of}
 use Rattle.conn_table.specs.declared.table.Conns.{Conns}
 use Rattle.conn_table.specs.Table.{count_of, IsTalk, KeepsOthers}
 use Rattle.served_world.specs.Replies.{Reads}
 use Rattle.served_world.specs.World.{Conn, World, Happens, handed, gone, IsPiece}
-use Rattle.event_loop.specs.Answering.{At, Upload, Uploads}
+use Rattle.request_acts.specs.Answering.{At, Upload, Uploads, Contents}
+use Rattle.request_acts.specs.Doing.{joined, HasContent, Awaits}
 
--- the upload whose head and bytes came is under way
-pub record IsUnderWay (R : Reads) (head : Head) (came : List ℕ) (u : Upload) : Type 0 where
-  pub token : Option (List ℕ)
-  pub read : R.upload head token u.call
-  pub came_is : u.came ≡ came
+-- a talk of the table, with the content that is read for it behind the text of its reply
+abbrev pub seen : List ℕ → Talk (List ℕ) → Talk (List ℕ)
+seen content a = record a { reply = option_map (joined content) a.reply }
 
--- Of a request without a reply either nothing is told, or its upload is under way.
-abbrev pub Awaits : Reads → ℕ → List ℕ → Option Upload → Asked → Type 0
-Awaits R before got up nothing = up ≡ None
-Awaits R before got up (refused kind) = ⊥
-Awaits R before got up (begun head came) = IsAsked before got (begun head came) × MatchOption up ⊥ (IsUnderWay R head came)
-Awaits R before got up (complete head body rest) = ⊥
-
--- and no upload is under way while a reply is pending
+-- no upload is under way while a reply is pending
 abbrev pub IsIdle : Reads → Option Upload → Talk (List ℕ) → Type 0
 IsIdle R up a = MatchOption a.reply (Awaits R a.before a.got up a.told) (λ p. up ≡ None)
 
-abbrev pub IsConnOf : Reads → Conns (List ℕ) → ℕ → Option Upload → Option Conn → Type 0
-IsConnOf R t c up None = IsTalk t c None × (up ≡ None)
-IsConnOf R t c up (Some k) = IsTalk t c (Some k.talk) × IsIdle R up k.talk
+-- the connection is in the table; this is its upload, and this is read for its reply
+pub record IsKept (R : Reads) (t : Conns (List ℕ)) (c : ℕ) (up : Option Upload) (content : List ℕ) (k : Conn) : Type 0 where
+  pub talk : Talk (List ℕ)
+  pub is_talk : IsTalk t c (Some talk)
+  pub seen_is : k.talk ≡ seen content talk
+  pub idle : IsIdle R up talk
+  pub content_is : HasContent content talk.reply
 
--- the table has the connections of the world, and these are their uploads
-pub record IsTable (R : Reads) (ups : Uploads) (t : Conns (List ℕ)) (w : World) : Type 0 where
-  pub each : (c : ℕ) → IsConnOf R t c (ups c) (w.conns c)
+abbrev pub IsConnOf : Reads → Conns (List ℕ) → ℕ → Option Upload → List ℕ → Option Conn → Type 0
+IsConnOf R t c up content None = IsTalk t c None × (up ≡ None) × (content ≡ [])
+IsConnOf R t c up content (Some k) = IsKept R t c up content k
+
+-- the table has the connections of the world; these are their uploads and the contents that are read for them
+pub record IsTable (R : Reads) (ups : Uploads) (outs : Contents) (t : Conns (List ℕ)) (w : World) : Type 0 where
+  pub each : (c : ℕ) → IsConnOf R t c (ups c) (outs c) (w.conns c)
   pub count : count_of t ≡ w.count
 
 -- and the machine is where it is there
 pub record IsWorld (R : Reads) (now : At) (t : Conns (List ℕ)) (w : World) : Type 0 where
   pub uploads : Uploads
-  pub machine : now w.machine.state w.machine.words uploads
-  pub table : IsTable R uploads t w
+  pub contents : Contents
+  pub machine : now w.machine.state w.machine.words uploads contents
+  pub table : IsTable R uploads contents t w
+
+-- a reply that is still to be sent, or its end
+pub record HasBounds (p : Pending (List ℕ)) : Type 0 where
+  pub left : p.sent < size_of p
+  pub small : size_of p < 2 ^ 64
+
+-- the link was handed these bytes of the reply, which close its connection where it ends in them and does not stay
+abbrev pub sent_of : ℕ → Pending (List ℕ) → List ℕ → SentPiece
+sent_of c p bytes = front_sent c bytes ((p.sent + length bytes == size_of p) && not p.stay) (length bytes)
+
+-- the link was handed the next bytes of the reply, which are so many
+pub record IsHanded (c : ℕ) (p : Pending (List ℕ)) (n : ℕ) (before after : List SentPiece) : Type 0 where
+  pub count : n ≡ length (handed p)
+  pub grows : after ≡ before ++ sent_of c p (handed p) ∷ []
 
 -- no call of the link is to fail, and no send to be lost: each send takes all its bytes
 pub record IsWilling (link : MemLink) : Type 0 where

@@ -9,15 +9,14 @@ ghost use Rattle.conn_talk.specs.declared.pending.Pending.{Pending as TheReply};
 ghost use Rattle.conn_talk.specs.Talk.{Talk, size_of, is_whole, with_sent};
 ghost use Rattle.conn_table.specs.Table.{conn_at, count_of, IsTalk, pending_at};
 ghost use Rattle.served_world.specs.World.{Conn as TheConn, World, with_conn, conn_after, IsPiece, IsAfterSend};
-ghost use Rattle.event_loop.specs.Answering.{Uploads, reads};
+ghost use Rattle.request_acts.specs.Answering.{Uploads, Contents, reads};
 ghost use Rattle.event_loop.specs.Serving.{IsTable, IsWorld, IsWilling, HasOpened, Steps, Serves, Takes, Loses};
 
-use crate::acts::carry_all;
-use crate::answering::Answering;
-use crate::bytes::{handed, is_last};
-use b2_base::{Blob, ConnNum, Memory, Or};
+use crate::handing::hand_next;
+use b2_base::{Blob, ConnNum, Or};
 use conn_table::{Conns, TooMany};
 use outside_traits::{Event, Link, MemLink, Sent};
+use request_acts::{Answering, End, carry_all};
 use std::alloc::Global;
 
 // Bytes come on an open connection.
@@ -28,7 +27,7 @@ fn read_bytes<S: Answering>(
     reading: u64,
     c: ConnNum,
     bytes: &[u8],
-) -> Result<(), Memory>
+) -> Result<(), End>
     requires { (a : Talk (List ℕ)) × IsTalk conns.old c (Some a) }
     ensures { OnOk result ((w : World) (k : TheConn)
         → IsWorld (reads S.call S.upload) (S.at store.old) conns.old (with_conn w c (Some k))
@@ -36,6 +35,9 @@ fn read_bytes<S: Answering>(
         × IsWorld (reads S.call S.upload) (S.at store.new) conns.new v × (v.sends ≡ w.sends)) }
 {
     let acts = conns.piece(alloc, c, bytes)?;
+    if acts.is_empty() {
+        return Ok(());
+    }
     let stay = conns.asks_stay(c);
     let Some(reply) = carry_all(alloc, store, reading, c, stay, &acts)? else {
         return Ok(());
@@ -51,8 +53,9 @@ fn on_piece<S: Answering>(
     reading: u64,
     c: ConnNum,
     bytes: &[u8],
-) -> Result<(), Memory>
-    requires { (w : World) × (ups : Uploads) × IsTable (reads S.call S.upload) ups conns.old w }
+) -> Result<(), End>
+    requires { (w : World) × (ups : Uploads) × (outs : Contents)
+        × IsTable (reads S.call S.upload) ups outs conns.old w }
     ensures { OnOk result (Steps (reads S.call S.upload) (S.at store.old) conns.old
         (Takes (reads S.call S.upload) reading c bytes.now) (S.at store.new) conns.new) }
 {
@@ -63,8 +66,8 @@ fn on_piece<S: Answering>(
     Ok(())
 }
 
-// So many bytes of its reply were sent. Where the reply ends, the connection is closed, or the bytes
-// that were held are read.
+// So many bytes of its reply were sent. Where the reply ends, its content is read no longer, and the
+// connection is closed, or the bytes that were held are read.
 fn after_send<S: Answering>(
     alloc: Global,
     conns: &mut Conns<Blob>,
@@ -72,7 +75,7 @@ fn after_send<S: Answering>(
     reading: u64,
     c: ConnNum,
     n: u64,
-) -> Result<(), Memory>
+) -> Result<(), End>
     requires talk { (a : Talk (List ℕ)) × (p : TheReply (List ℕ))
         × IsTalk conns.old c (Some a) × (a.reply ≡ Some p) }
     requires within { MatchOption (pending_at conns.old c) ⊥ (λ p. p.sent + n ≤ size_of p) }
@@ -86,6 +89,7 @@ fn after_send<S: Answering>(
     let Some(reply) = conns.sent(c, n) else {
         return Ok(());
     };
+    store.finish_out(alloc, c)?;
     if !reply.stay {
         return Ok(());
     }
@@ -100,9 +104,9 @@ fn on_ready<S: Answering>(
     reading: u64,
     c: ConnNum,
     link: &mut MemLink,
-) -> Result<(), Memory>
-    requires world { (w : World) × (ups : Uploads)
-        × IsTable (reads S.call S.upload) ups conns.old w }
+) -> Result<(), End>
+    requires world { (w : World) × (ups : Uploads) × (outs : Contents)
+        × IsTable (reads S.call S.upload) ups outs conns.old w }
     requires willing { IsWilling link.old }
     ensures willing { OnOk result (IsWilling link.new) }
     ensures ahead { link_ahead link.new ≡ link_ahead link.old }
@@ -113,17 +117,9 @@ fn on_ready<S: Answering>(
     let Some(pending) = conns.ready(c) else {
         return Ok(());
     };
-    let bytes = handed(pending);
-    let n = bytes.len();
-    let last = is_last(pending, n);
-    match link.send(c, bytes, last) {
-        Sent::Sent(_) => {
-            after_send(alloc, conns, store, reading, c, n as u64)?;
-            Ok(())
-        }
-        Sent::Gone => unreachable!(),
-        Sent::Failed => Err(Memory),
-    }
+    let n = hand_next(alloc, store, c, pending, link)?;
+    after_send(alloc, conns, store, reading, c, n)?;
+    Ok(())
 }
 
 fn on_open(
@@ -131,7 +127,7 @@ fn on_open(
     conns: &mut Conns<Blob>,
     c: ConnNum,
     link: &mut MemLink,
-) -> Result<(), Memory>
+) -> Result<(), End>
     requires willing { IsWilling link.old }
     ensures willing { OnOk result (IsWilling link.new) }
     ensures ahead { link_ahead link.new ≡ link_ahead link.old }
@@ -148,37 +144,40 @@ fn on_open(
     }
     match conns.open(alloc, c) {
         Ok(()) => Ok(()),
-        Err(Or::Memory) => Err(Memory),
+        Err(Or::Memory) => Err(End::Memory),
         Err(Or::Fault(TooMany)) => match link.send(c, &[], true) {
             Sent::Sent(_) => Ok(()),
             Sent::Gone => unreachable!(),
-            Sent::Failed => Err(Memory),
+            Sent::Failed => Err(End::Memory),
         },
     }
 }
 
-// The connection is lost, and with it the upload that is under way on it.
+// The connection is lost, and with it the upload that is under way on it. What is left of its reply is
+// not read.
 fn on_gone<S: Answering>(
     alloc: Global,
     conns: &mut Conns<Blob>,
     store: &mut S,
     reading: u64,
     c: ConnNum,
-) -> Result<(), Memory>
-    requires { (w : World) × (ups : Uploads) × IsTable (reads S.call S.upload) ups conns.old w }
+) -> Result<(), End>
+    requires { (w : World) × (ups : Uploads) × (outs : Contents)
+        × IsTable (reads S.call S.upload) ups outs conns.old w }
     ensures { OnOk result (Steps (reads S.call S.upload) (S.at store.old) conns.old
         (Loses reading c) (S.at store.new) conns.new) }
 {
     let is_uploading = conns.uploading(c);
     conns.gone(c);
+    store.finish_out(alloc, c)?;
     if is_uploading {
         store.lost(alloc, reading, c)?;
     }
     Ok(())
 }
 
-/// What the server does at an event, at this reading of the clock in milliseconds since 1970. After
-/// `Memory` neither the table nor what answers is used again.
+/// What the server does at an event, at this reading of the clock in milliseconds since 1970. After an
+/// `Err` neither the table nor what answers is used again.
 pub fn serve_event<S: Answering>(
     alloc: Global,
     conns: &mut Conns<Blob>,
@@ -186,9 +185,9 @@ pub fn serve_event<S: Answering>(
     reading: u64,
     event: &Event,
     link: &mut MemLink,
-) -> Result<(), Memory>
-    requires world { (w : World) × (ups : Uploads)
-        × IsTable (reads S.call S.upload) ups conns.old w }
+) -> Result<(), End>
+    requires world { (w : World) × (ups : Uploads) × (outs : Contents)
+        × IsTable (reads S.call S.upload) ups outs conns.old w }
     requires willing { IsWilling link.old }
     ensures willing { OnOk result (IsWilling link.new) }
     ensures ahead { link_ahead link.new ≡ link_ahead link.old }

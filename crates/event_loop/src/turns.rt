@@ -5,15 +5,14 @@ ghost use Rattle.outside_traits.specs.Lists.{clock_ahead};
 ghost use Rattle.outside_traits.specs.Memory.{link_ahead, link_sent};
 ghost use Rattle.b2_model.specs.State.{State};
 ghost use Rattle.served_world.specs.World.{start};
-ghost use Rattle.event_loop.specs.Answering.{none_under_way, reads};
+ghost use Rattle.request_acts.specs.Answering.{none_under_way, none_read, reads};
 ghost use Rattle.event_loop.specs.Serving.{IsWilling};
 ghost use Rattle.event_loop.specs.Turns.{HasRun};
 
-use crate::answering::Answering;
 use crate::events::serve_event;
-use b2_base::Memory;
 use conn_table::Conns;
 use outside_traits::{Clock, Link, ListClock, MemLink};
+use request_acts::{Answering, End};
 use std::alloc::Global;
 
 /// Serves the events of a link, of which there are so many, each at the next reading of the clock.
@@ -23,14 +22,15 @@ pub fn serve<S: Answering>(
     link: &mut MemLink,
     clock: &mut ListClock,
     turns: usize,
-) -> Result<(), Memory>
+) -> Result<(), End>
     requires somewhere { (M : State (List ℕ)) × (words : List ℕ)
-        × S.at store.old M words none_under_way }
+        × S.at store.old M words none_under_way none_read }
     requires willing { IsWilling link.old }
     requires unsent { link_sent link.old ≡ [] }
     requires events { turns ≡ length (link_ahead link.old) }
     requires readings { turns ≡ length (clock_ahead clock.old) }
-    ensures { OnOk result ((M : State (List ℕ)) (words : List ℕ) → S.at store.old M words none_under_way
+    ensures { OnOk result ((M : State (List ℕ)) (words : List ℕ)
+        → S.at store.old M words none_under_way none_read
         → HasRun (reads S.call S.upload) (start M words) (link_ahead link.old)
         (clock_ahead clock.old) (link_sent link.new)) }
 {
@@ -38,7 +38,7 @@ pub fn serve<S: Answering>(
     'turns: for _ in 0..turns {
         let reading = clock.now();
         let Ok(event) = link.next() else {
-            return Err(Memory);
+            return Err(End::Memory);
         };
         serve_event(alloc, &mut conns, store, reading, &event, link)?;
     }

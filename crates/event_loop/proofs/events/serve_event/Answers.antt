@@ -1,7 +1,7 @@
 use Rattle.std.proofs.Common.{subst, sym}
 use Rattle.outside_traits.specs.declared.link.Event.{Event}
 use Rattle.outside_traits.specs.Memory.{link_sent}
-use Rattle.event_loop.specs.Answering.{reads}
+use Rattle.request_acts.specs.Answering.{reads}
 use Rattle.event_loop.specs.Serving.{Serves}
 use Rattle.event_loop.proofs.Opening.{open_served, piece_served, gone_served}
 use Rattle.event_loop.proofs.events.serve_event.Goals as goal

@@ -2,7 +2,7 @@ use Rattle.std.proofs.Common.{Vec, Global, ℕ, ap, ◌∙◌, arith}
 use Rattle.outside_traits.specs.Lists.{clock_ahead, clock_last}
 use Rattle.outside_traits.specs.Memory.{link_ahead, link_sent}
 use Rattle.served_world.specs.World.{start}
-use Rattle.event_loop.specs.Answering.{reads}
+use Rattle.request_acts.specs.Answering.{reads}
 use Rattle.event_loop.proofs.Loops.{served_none, served_more, all_served, same_sent}
 use Rattle.event_loop.proofs.turns.serve.Goals as goal
 
@@ -15,7 +15,7 @@ turns-init g c = (
 pub serve_event-requires-clause-world : goal.serve_event-requires-clause-world
 serve_event-requires-clause-world g c =
     let (M, words, at) = c.requires.somewhere in
-    let h = c.turns.invariant.1 M words at in (h.world, h.at.uploads, h.at.table)
+    let h = c.turns.invariant.1 M words at in (h.world, h.at.uploads, h.at.contents, h.at.table)
 
 pub serve_event-requires-clause-willing : goal.serve_event-requires-clause-willing
 serve_event-requires-clause-willing g c = record { fails = ap (λ (v : Vec ℕ Global). v.items) c.in-Ok.ensures.same ∙ c.turns.invariant.0.fails; gone = c.in-Ok.ensures.gone ∙ c.turns.invariant.0.gone }

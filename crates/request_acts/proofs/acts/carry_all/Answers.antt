@@ -1,10 +1,10 @@
-use Rattle.std.proofs.Common.{◌≡◌, ℕ, ◌+◌, List, [], ◌∷◌, ◌++◌, Some, None, Option, take, drop, sym, ap, ◌∙◌, subst}
+use Rattle.std.proofs.Common.{◌≡◌, ◌+◌, List, [], ◌∷◌, ◌++◌, Some, None, take, drop, sym, ap, ◌∙◌, subst}
 use Rattle.std.proofs.lemmas.List.{take_more, take-append-drop}
 use Rattle.conn_talk.specs.declared.act.Act.{Act}
-use Rattle.conn_talk.specs.declared.pending.Pending.{Pending}
-use Rattle.event_loop.specs.Answering.{reads}
-use Rattle.event_loop.proofs.Doing.{Carries, HasDone, done_more, done_all}
-use Rattle.event_loop.proofs.acts.carry_all.Goals as goal
+use Rattle.request_acts.specs.Answering.{reads}
+use Rattle.request_acts.specs.Doing.{HasDone}
+use Rattle.request_acts.proofs.Doing.{done_more, done_all}
+use Rattle.request_acts.proofs.acts.carry_all.Goals as goal
 
 pub returns-in-Some-clause-does : goal.returns-in-Some-clause-does
 returns-in-Some-clause-does g c =

@@ -3,13 +3,22 @@
 ghost use Rattle.std.specs.Prelude.{◌≡◌, ◌<◌, ◌++◌, false, IfOk, length};
 ghost use Rattle.b2_types.specs.declared.answer.AnswerOf.TheVariants as answer;
 ghost use Rattle.http_edge.specs.Reply.{reply_of};
-ghost use Rattle.event_loop.specs.Answering.{IsText};
+ghost use Rattle.request_acts.specs.Answering.{IsText};
 
 use api_json::json_body;
 use b2_base::{Blob, Memory};
 use b2_types::{AnswerOf, Fault};
 use http_edge::reply_head;
 use std::alloc::{AllocError, Global};
+
+/// A reply before any of it is sent.
+#[derive(Drop)]
+pub struct Reply {
+    /// What is sent first: its head at least.
+    pub text: Blob,
+    /// How many bytes of a content are sent after it.
+    pub len: u64,
+}
 
 // One text after the other.
 fn joined(alloc: Global, first: &[u8], second: &[u8]) -> Result<Vec<u8>, AllocError>

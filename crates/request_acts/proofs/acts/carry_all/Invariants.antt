@@ -1,7 +1,7 @@
 use Rattle.std.proofs.Common.{None, take}
-use Rattle.event_loop.specs.Answering.{reads}
-use Rattle.event_loop.proofs.Doing.{HasDone}
-use Rattle.event_loop.proofs.acts.carry_all.Given as goal
+use Rattle.request_acts.specs.Answering.{reads}
+use Rattle.request_acts.specs.Doing.{HasDone}
+use Rattle.request_acts.proofs.acts.carry_all.Given as goal
 
 abbrev pub invariant-acts : goal.invariant-acts
 invariant-acts g l =

@@ -1,5 +1,7 @@
 -- Which requests are answered: what bytes bring is of requests that are served.
-use Rattle.std.proofs.Common.{◌≡◌, ◌<◌, ◌++◌, ℕ, Bool, true, false, cond, List, [], ◌∷◌, length, drop, Some, None, refl, sym, ap, ◌∙◌, subst, arith}
+use Rattle.std.proofs.Common.{◌≡◌, ◌<◌, ◌++◌, ℕ, nat_le, Bool, true, false, cond, List, [], ◌∷◌, length, take, drop, inl, inr, refl, sym, ap, ◌∙◌, subst, arith}
+use Rattle.std.proofs.lemmas.Bool.{leb-true}
+use Rattle.std.proofs.lemmas.List.{length-take}
 use Rattle.std.specs.List.{AllByRecursion}
 use Rattle.b2_types.specs.declared.answer.AnswerOf.{AnswerOf}
 use Rattle.wire_forms.specs.declared.request.Request.{Request}
@@ -8,14 +10,15 @@ use Rattle.call_paths.specs.Path.{IsRouted}
 use Rattle.http_edge.specs.declared.head.Head.{Head}
 use Rattle.http_edge.specs.Length.{is_upload}
 use Rattle.http_edge.specs.Reply.{reply_of}
-use Rattle.http_edge.specs.Received.{HasRequest}
+use Rattle.http_edge.specs.declared.cut.Cut.TheVariants.{Head as HeadCut, NotYet, TooLong}
+use Rattle.http_edge.specs.Received.{Received, unfinished, malformed, announced, whole, IsReceived, HasRequest}
 use Rattle.http_edge.proofs.Receiving.{announced_has, whole_has}
 use Rattle.conn_talk.specs.declared.act.Act.{Act}
 use Rattle.conn_talk.specs.declared.act.Act.TheVariants as act
 use Rattle.conn_talk.specs.Asked.{Asked, nothing, refused, begun, complete, head_of, IsAsked}
 use Rattle.conn_talk.specs.Acts.{body_acts, acts_of, acts_after}
 use Rattle.conn_talk.proofs.Once.{open_upload}
-use Rattle.event_loop.specs.Answering.{IsServedHead, IsServedAct}
+use Rattle.request_acts.specs.Answering.{IsServedHead, IsServedAct}
 
 has_served : (before : ℕ) (bytes : List ℕ) (r : Request) (route : Route) → HasRequest bytes r route → IsServedHead (head_of before r route)
 has_served before bytes r route (end, cut, (h, is_head, (routed, in_order), is)) =
@@ -26,6 +29,35 @@ whole_served before bytes head body rest (r, route, received, is, after) = subst
 
 begun_served : (before : ℕ) (bytes : List ℕ) (head : Head) (came : List ℕ) → IsAsked before bytes (begun head came) → IsServedHead head
 begun_served before bytes head came (r, route, received, is, after) = subst IsServedHead (sym is) (has_served before bytes r route (announced_has bytes r route received))
+
+-- ---- how long a body is
+
+-- what a whole request says of its body
+abbrev HasSize : Received → Type 0
+HasSize unfinished = Unit {0}
+HasSize (malformed kind) = Unit {0}
+HasSize (announced r route) = Unit {0}
+HasSize (whole r route body) = length body ≡ r.length
+
+size_by : (r : Request) (route : Route) (rest : List ℕ) (fits uploads : Bool) → nat_le r.length (length rest) ≡ fits → HasSize (cond fits (whole r route (take r.length rest)) (cond uploads (announced r route) unfinished))
+size_by r route rest true uploads fits =
+    let low = leb-true r.length (length rest) fits in
+    let size = length-take r.length rest in omega (arith, low, size)
+size_by r route rest false true fits = tt
+size_by r route rest false false fits = tt
+
+has_size : (bytes : List ℕ) (received : Received) → IsReceived bytes received → HasSize received
+has_size bytes received (NotYet, cut, same) = subst HasSize (sym same) tt
+has_size bytes received (TooLong, cut, same) = subst HasSize (sym same) tt
+has_size bytes received (HeadCut end, cut, inl (kind, fault, same)) = subst HasSize (sym same) tt
+has_size bytes received (HeadCut end, cut, inr (r, route, is, same)) =
+    let rest = drop end bytes in subst HasSize (sym same) (size_by r route rest (nat_le r.length (length rest)) (is_upload route.name) refl)
+
+-- the body of a whole request is as long as its head says
+pub body_size : (before : ℕ) (bytes : List ℕ) (head : Head) (body rest : List ℕ) → IsAsked before bytes (complete head body rest) → length body ≡ head.request.length
+body_size before bytes head body rest (r, route, received, is, after) = has_size bytes (whole r route body) received ∙ ap (λ (h : Head). h.request.length) (sym is)
+
+-- ---- acts of requests that are served
 
 abbrev AllServed : List Act → Type 0
 AllServed acts = AllByRecursion IsServedAct acts
