@@ -8,7 +8,7 @@ use Rattle.event_script.specs.Script.{script_words, script_events, script_readin
 use Rattle.event_script.specs.declared.script.Script.{Script}
 use Rattle.b2_model.specs.State.{State}
 use Rattle.served_world.specs.World.{start}
-use Rattle.request_acts.specs.Answering.{none_under_way}
+use Rattle.request_acts.specs.Answering.{none_under_way, none_read}
 use Rattle.event_loop.specs.Turns.{HasRun}
 use Rattle.b2_server.specs.Store.{fixed_store, opened_store, IsAt, IsQuiet}
 use Rattle.b2_server.specs.Answer.{reads}
@@ -17,7 +17,7 @@ use Rattle.b2_server.specs.Run.{Sends}
 
 -- a run from the store that was opened is what its script sends
 pub run_sends : (script : Script) (store : FirstStore) (words readings : List ℕ) (events : List Event) (sent : List SentPiece) → words ≡ script_words script → events ≡ script_events script → readings ≡ script_readings script
-    → IsAt store (opened_store fixed_store) words → ((M : State (List ℕ)) (ws : List ℕ) → IsQuiet store M ws none_under_way → HasRun reads (start M ws) events readings sent)
+    → IsAt store (opened_store fixed_store) words → ((M : State (List ℕ)) (ws : List ℕ) → IsQuiet store M ws none_under_way none_read → HasRun reads (start M ws) events readings sent)
     → Sends (script_words script) (script_events script) (script_readings script) sent
 unfolding Sends
 run_sends script store words readings events sent is_words are_events are_readings at runs =
@@ -25,7 +25,7 @@ run_sends script store words readings events sent is_words are_events are_readin
     let by_words : List ℕ → Type 0 = λ ws. HasRun reads (start M ws) events readings sent in
     let by_events : List Event → Type 0 = λ es. HasRun reads (start M (script_words script)) es readings sent in
     let by_readings : List ℕ → Type 0 = λ rs. HasRun reads (start M (script_words script)) (script_events script) rs sent in
-    subst by_readings are_readings (subst by_events are_events (subst by_words is_words (runs M words (record { at = at; none = λ c. refl }))))
+    subst by_readings are_readings (subst by_events are_events (subst by_words is_words (runs M words (record { at = at; none = λ c. refl; unread = λ c. refl }))))
 
 pub one_word : (words : List (List ℕ)) (word : List ℕ) → 1 ≤ length words → length words < 2 → word ≡ get_or words 0 word → words ≡ word ∷ []
 one_word [] word some few is = absurd (omega arith)

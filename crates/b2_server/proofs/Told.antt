@@ -1,5 +1,5 @@
 -- A step of the machine that is an authorize call, and the store after it.
-use Rattle.std.proofs.Common.{◌≡◌, ℕ, Bool, true, false, List, drop, Some, None, refl, sym, ap, ◌∙◌, subst}
+use Rattle.std.proofs.Common.{◌≡◌, ℕ, Bool, true, false, List, drop, Some, None, refl, sym, ap, ◌∙◌, subst, if◌then◌else◌, [], nat_eq, append-nil}
 use Rattle.sha2.specs.Sha256.{sha256}
 use Rattle.rule_table.specs.declared.fault.FaultKind.{FaultKind}
 use Rattle.rule_table.specs.declared.fault.FaultKind.TheVariants as kind
@@ -25,7 +25,8 @@ use Rattle.call_paths.specs.declared.routes.Route.{Route}
 use Rattle.http_edge.specs.declared.head.Head.{Head}
 use Rattle.http_edge.specs.Reply.{reply_of}
 use Rattle.api_json.specs.Call.{HasCredentials}
-use Rattle.request_acts.specs.Answering.{IsAnswer, Uploads}
+use Rattle.request_acts.specs.Answering.{IsAnswer, Uploads, Contents, with_content}
+use Rattle.request_acts.specs.declared.replies.Reply.{Reply}
 use Rattle.b2_server.specs.Store.{IsAt, IsQuiet, IsGranted, begun_at, granted, master_account}
 use Rattle.b2_server.specs.Answer.{IsCallOf, IsCall, after_asking, told_to, Tells, IsTold}
 use Rattle.b2_server.specs.declared.store.FirstStore.{FirstStore}
@@ -146,15 +147,25 @@ told_of s P reading head call told named of_version has answers = record {
   tells = answers;
 }
 
-pub is_answer : (s : FirstStore) (P : Progress (List ℕ)) (reading : ℕ) (head : Head) (body text : List ℕ) (told : AnswerOf (List ℕ)) → IsTold s P reading head told → text ≡ reply_of told head.request.stay
-    → (ups : Uploads) → ((c : ℕ) → ups c ≡ None) → IsAnswer IsCall (IsQuiet s) ups P reading head body text
+-- nothing is read after nothing was read and nothing begins to be
+cases_unread : (same : Bool) (content : List ℕ) → content ≡ [] → (if same then [] else content) ≡ []
+cases_unread true content none = refl
+cases_unread false content none = none
+
+pub stays_unread : (outs : Contents) (c : ℕ) → ((d : ℕ) → outs d ≡ []) → (d : ℕ) → with_content outs c [] d ≡ []
+stays_unread outs c unread d = cases_unread (nat_eq c d) (outs d) (unread d)
+
+pub is_answer : (s : FirstStore) (P : Progress (List ℕ)) (reading c : ℕ) (head : Head) (body text : List ℕ) (told : AnswerOf (List ℕ)) → IsTold s P reading head told → text ≡ reply_of told head.request.stay
+    → (ups : Uploads) (outs : Contents) → ((d : ℕ) → ups d ≡ None) → ((d : ℕ) → outs d ≡ []) → IsAnswer IsCall (IsQuiet s) ups outs P reading c head body (record { text = text; len = 0 })
 unfolding after_asking told_to
-is_answer s P reading head body text told is text_is ups none = record {
+is_answer s P reading c head body text told is text_is ups outs none unread = record {
   token = None;
   asked = is.asked;
   told = told;
+  content = [];
   read = (refl, is.read);
   answers = is.tells.answers;
-  after = record { at = is.tells.after; none = none };
-  text_is = text_is;
+  after = record { at = is.tells.after; none = none; unread = stays_unread outs c unread };
+  len_is = refl;
+  text_is = append-nil text ∙ text_is;
 }

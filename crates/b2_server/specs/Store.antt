@@ -19,7 +19,7 @@ use Rattle.b2_model.specs.Run.{with_restart, with_daily_pass}
 use Rattle.auth_grants.specs.Tokens.{tokens}
 use Rattle.auth_grants.specs.declared.held.Held.{Held}
 use Rattle.auth_grants.specs.declared.grants.Terms.{Terms}
-use Rattle.request_acts.specs.Answering.{Uploads}
+use Rattle.request_acts.specs.Answering.{Uploads, Contents}
 use Rattle.b2_server.specs.declared.store.FirstStore.{FirstStore}
 
 -- its settings
@@ -54,10 +54,11 @@ pub record IsAt (s : FirstStore) (M : State (List ℕ)) (words : List ℕ) : Typ
   pub held : s.tokens ≡ tokens s.tokens.serial (map idle grants)
   pub left : words ≡ words_ahead s.words
 
--- and no upload is under way
-pub record IsQuiet (s : FirstStore) (M : State (List ℕ)) (words : List ℕ) (ups : Uploads) : Type 0 where
+-- and no upload is under way, and no content is read
+pub record IsQuiet (s : FirstStore) (M : State (List ℕ)) (words : List ℕ) (ups : Uploads) (outs : Contents) : Type 0 where
   pub at : IsAt s M words
   pub none : (c : ℕ) → ups c ≡ None
+  pub unread : (c : ℕ) → outs c ≡ []
 
 -- ---- what a step makes of the state. These words do not unfold by themselves.
 

@@ -1,9 +1,9 @@
 //! The store as what answers requests.
 
-ghost use Rattle.std.specs.Prelude.{◌≡◌, ◌<◌, ℕ, List, IfOk, length};
+ghost use Rattle.std.specs.Prelude.{◌≡◌, ◌<◌, ℕ, List, [], IfOk, length};
 ghost use Rattle.b2_model.specs.Run.{Progress};
 ghost use Rattle.http_edge.specs.Reply.{reply_of};
-ghost use Rattle.request_acts.specs.Answering.{IsServedHead, IsAnswer, IsText, Uploads};
+ghost use Rattle.request_acts.specs.Answering.{IsServedHead, IsAnswer, IsText, Uploads, Contents};
 ghost use Rattle.b2_server.specs.Answer.{IsCall, IsTold};
 ghost use Rattle.b2_server.specs.Store.{IsAt, IsQuiet};
 
@@ -11,8 +11,8 @@ use crate::store::FirstStore;
 use api_json::authorize_call;
 use b2_base::{Blob, ConnNum, Memory, Or};
 use b2_types::{AnswerOf, Shown};
-use event_loop::{Answering, reply_text};
 use http_edge::Head;
+use request_acts::{Answering, End, Reply, reply_text};
 use rule_table::CallName;
 use std::alloc::Global;
 
@@ -60,16 +60,17 @@ impl FirstStore {
     }
 
     // The bytes that answer the request.
-    fn reply(&mut self, alloc: Global, reading: u64, head: &Head) -> Result<Blob, Memory>
+    fn reply(&mut self, alloc: Global, reading: u64, head: &Head) -> Result<Reply, Memory>
         requires { IsServedHead head.now }
-        ensures answer { IfOk result (λ text. (P : Progress (List ℕ)) (body : List ℕ) (ups : Uploads)
-            → IsQuiet self.old P.state P.words ups
-            → IsAnswer IsCall (IsQuiet self.new) ups P reading head.now body text) }
-        ensures some { IfOk result (λ text. 0 < length text) }
+        ensures answer { IfOk result (λ reply. (P : Progress (List ℕ)) (c : ℕ) (body : List ℕ)
+            (ups : Uploads) (outs : Contents) → IsQuiet self.old P.state P.words ups outs
+            → IsAnswer IsCall (IsQuiet self.new) ups outs P reading c head.now body reply) }
+        ensures some { IfOk result (λ reply. 0 < length reply.text) }
+        ensures none { IfOk result (λ reply. reply.len ≡ 0) }
     {
         let answer = self.told(alloc, reading, head)?;
         let text = text_of(alloc, answer, head.request.stay)?;
-        Ok(text)
+        Ok(Reply { text, len: 0 })
     }
 }
 
@@ -83,15 +84,17 @@ impl Answering for FirstStore {
 
     ghost at = { IsQuiet };
 
+    // No call that is served sends a content.
     fn answer(
         &mut self,
         alloc: Global,
         reading: u64,
+        _c: ConnNum,
         head: &Head,
         _body: &[u8],
-    ) -> Result<Blob, Memory> {
-        let text = self.reply(alloc, reading, head)?;
-        Ok(text)
+    ) -> Result<Reply, End> {
+        let reply = self.reply(alloc, reading, head)?;
+        Ok(reply)
     }
 
     // No call that is served is an upload.
@@ -101,11 +104,11 @@ impl Answering for FirstStore {
         _reading: u64,
         _c: ConnNum,
         _head: &Head,
-    ) -> Result<Option<Blob>, Memory> {
+    ) -> Result<Option<Blob>, End> {
         Ok(None)
     }
 
-    fn piece(&mut self, _alloc: Global, _c: ConnNum, _bytes: &[u8]) -> Result<(), Memory> {
+    fn piece(&mut self, _alloc: Global, _c: ConnNum, _bytes: &[u8]) -> Result<(), End> {
         Ok(())
     }
 
@@ -115,11 +118,25 @@ impl Answering for FirstStore {
         _reading: u64,
         _c: ConnNum,
         _stay: bool,
-    ) -> Result<Option<Blob>, Memory> {
+    ) -> Result<Option<Blob>, End> {
         Ok(None)
     }
 
-    fn lost(&mut self, _alloc: Global, _reading: u64, _c: ConnNum) -> Result<(), Memory> {
+    fn lost(&mut self, _alloc: Global, _reading: u64, _c: ConnNum) -> Result<(), End> {
+        Ok(())
+    }
+
+    fn read_out(
+        &mut self,
+        alloc: Global,
+        _c: ConnNum,
+        _from: u64,
+        _most: usize,
+    ) -> Result<Blob, End> {
+        Ok(Blob::of(Vec::new(alloc)))
+    }
+
+    fn finish_out(&mut self, _alloc: Global, _c: ConnNum) -> Result<(), End> {
         Ok(())
     }
 }

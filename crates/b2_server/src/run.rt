@@ -8,10 +8,11 @@ ghost use Rattle.event_script.specs.Script.{ReadsScript, HasFirstWrong, script_e
 ghost use Rattle.b2_server.specs.Run.{IsReplay, Sends, IsNotUsage, IsNotBadLine, CallsWrong, Leaves, SourceCause, SinkCause, Quiet, IsOkOrMemory};
 
 use crate::store::FirstStore;
-use b2_base::{Memory, Or, Text};
+use b2_base::{Or, Text};
 use event_loop::serve;
 use event_script::{Script, ScriptFault, ScriptLink, read_script, write_sent};
 use outside_traits::{Failed, Sink, Source};
+use request_acts::End;
 use std::alloc::Global;
 
 /// How a run ended.
@@ -31,7 +32,7 @@ pub enum Status {
 }
 
 // Serves the script's events, and answers the link with what was sent.
-fn serve_script(alloc: Global, script: &Script) -> Result<ScriptLink, Memory>
+fn serve_script(alloc: Global, script: &Script) -> Result<ScriptLink, End>
     ensures { IfOk result (λ link. Sends (script_words script.now) (script_events script.now)
         (script_readings script.now) (link_sent link)) }
 {
@@ -62,6 +63,7 @@ fn replay<S: Source, K: Sink>(alloc: Global, script: &mut S, out: &mut K) -> Sta
         Err(Or::Fault(ScriptFault::SourceFault)) => return Status::SourceFault,
         Err(Or::Fault(ScriptFault::BadLine(number))) => return Status::BadLine(number),
     };
+    // The store has no disk, so that only memory can be wanting.
     let Ok(link) = serve_script(alloc, &script) else {
         return Status::Memory;
     };
