@@ -4,7 +4,6 @@ pub mod Runs
 pub mod Shown
 pub mod Silent
 pub mod Once
-pub mod Flights
 pub mod Whole
 pub mod Cuts
 pub mod Whenever

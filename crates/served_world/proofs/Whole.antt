@@ -20,7 +20,7 @@ use Rattle.served_world.specs.Replies.{Reads, Reply, told, Outcome, made, Begins
 use Rattle.served_world.specs.World.{Turn, Conn, World, start, with_conn, closing, new_conn, opened, pending_of, nothing_made, conn_read, conn_held, after_piece, IsPiece, closed, with_loss, gone, handed, conn_after, GoesOn, IsAfterSend, IsSent, IsReady, Happens, Run}
 use Rattle.served_world.specs.Laws.{IsComing, IsUnfinished}
 use Rattle.served_world.proofs.Conns.{changed}
-use Rattle.served_world.proofs.Flights.{under_way, flights_of, asked_flights, began, ended, lost}
+use Rattle.flight_laws.proofs.Flights.{under_way, flights_of, asked_flights, began, ended, lost}
 
 -- ---- small things
 

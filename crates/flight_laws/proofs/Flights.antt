@@ -2,7 +2,7 @@
 use Rattle.std.proofs.Common.{◌≡◌, ℕ, ◌==◌, nat_lt, ◌/◌, Bool, true, false, not, List, [], ◌∷◌, Option, Some, None, find, filter, option_map, if◌then◌else◌, unwrap_or, option_and_then, refl, sym, ap, ◌∙◌}
 use Rattle.std.specs.Prelude.{⊤}
 use Rattle.std.specs.Option.{is_some, is_none}
-use Rattle.std.proofs.lemmas.Bool.{false≢true, eqb-true, eq-eqb, ne_eqb}
+use Rattle.std.proofs.lemmas.Bool.{false≢true, eqb-true, eq-eqb}
 use Rattle.rule_table.specs.declared.fault.FaultKind.{FaultKind}
 use Rattle.rule_table.specs.declared.fault.FaultKind.TheVariants.{NoBucket, NoFile, NoKey}
 use Rattle.b2_types.specs.declared.fault.Fault.{Fault}
@@ -32,10 +32,11 @@ use Rattle.b2_model.specs.Plan.{Plan, or_absent}
 use Rattle.b2_model.specs.AskKeys.{authorize_plan, drop_key, key_of_id}
 use Rattle.b2_model.specs.AskDownloads.{content, or_refused}
 use Rattle.b2_model.specs.AskCopies.{file_copy_on, part_copy_on}
-use Rattle.b2_model.specs.Ask.{plan, plan_of, refusals_of, shown_by, at_moment, with_change, with_grant, outcome_or_refusal}
+use Rattle.b2_model.specs.Ask.{ask, plan, plan_of, refusals_of, shown_by, at_moment, with_change, with_grant, outcome_or_refusal}
 use Rattle.b2_model.specs.UploadSteps.{begin, begin_as, begin_refusals, new_flight, flight_of, without_flight, end_plan, file_end, part_end}
-use Rattle.b2_model.specs.Run.{Step, asks, begins, ends, loses, Progress, moment, with_pass, start_of, end_step, answer_to, with_answer, with_state, with_end, refusal_of, step}
+use Rattle.b2_model.specs.Run.{Step, asks, begins, ends, loses, Progress, moment, with_daily_pass, with_pass, start_of, end_step, answer_to, with_answer, with_state, with_end, refusal_of, step}
 use Rattle.machine_laws.proofs.PassKeeps.{passed_flights}
+use Rattle.flight_laws.proofs.Finds.{none_again, others_again, put_beside}
 
 -- an upload is under way on the connection
 abbrev pub under_way : List Flight → ℕ → Bool
@@ -43,35 +44,15 @@ under_way flights d = is_some (find (λ (f : Flight). f.conn == d) flights)
 
 -- ---- lists of uploads
 
+pub not_again : (c : ℕ) (flights : List Flight) → under_way (filter (λ (f : Flight). not (f.conn == c)) flights) c ≡ false
+not_again c flights = ap is_some (none_again c flights)
+
+pub others_stay : (c d : ℕ) → (c ≡ d → ⊥) → (flights : List Flight) → under_way (filter (λ (f : Flight). not (f.conn == c)) flights) d ≡ under_way flights d
+others_stay c d apart flights = ap is_some (others_again c d apart flights)
+
 -- whether one is under way, where this is found of the first
 abbrev found_at : ℕ → Flight → List Flight → Bool → Bool
 found_at d f flights t = is_some (if t then Some f else find (λ (g : Flight). g.conn == d) flights)
-
-pub not_again : (c : ℕ) (flights : List Flight) → under_way (filter (λ (f : Flight). not (f.conn == c)) flights) c ≡ false
-not_again c [] = refl
-not_again c (f ∷ flights) = by (f.conn == c) refl (not_again c flights)
-  where
-    rest : List Flight
-    rest = filter (λ (g : Flight). not (g.conn == c)) flights
-
-    by : (b : Bool) → (f.conn == c) ≡ b → under_way rest c ≡ false → under_way (if not b then f ∷ rest else rest) c ≡ false
-    by true is later = later
-    by false is later = ap (found_at c f rest) is ∙ later
-
-pub others_stay : (c d : ℕ) → (c ≡ d → ⊥) → (flights : List Flight) → under_way (filter (λ (f : Flight). not (f.conn == c)) flights) d ≡ under_way flights d
-others_stay c d apart [] = refl
-others_stay c d apart (f ∷ flights) = by (f.conn == c) refl (others_stay c d apart flights)
-  where
-    rest : List Flight
-    rest = filter (λ (g : Flight). not (g.conn == c)) flights
-
-    both : under_way rest d ≡ under_way flights d → (t : Bool) → found_at d f rest t ≡ found_at d f flights t
-    both later true = refl
-    both later false = later
-
-    by : (b : Bool) → (f.conn == c) ≡ b → under_way rest d ≡ under_way flights d → under_way (if not b then f ∷ rest else rest) d ≡ under_way (f ∷ flights) d
-    by false is later = both later (f.conn == d)
-    by true is later = later ∙ sym (ap (found_at d f flights) (ne_eqb f.conn d (λ same. apart (sym (eqb-true f.conn c is) ∙ same))))
 
 pub put_here : (f : Flight) (d : ℕ) (flights : List Flight) → f.conn ≡ d → under_way (put_by (λ (g : Flight). g.conn) f flights) d ≡ true
 put_here f d [] same = ap (found_at d f []) (eq-eqb f.conn d same)
@@ -89,19 +70,7 @@ put_here f d (g ∷ flights) same = by (nat_lt f.conn g.conn) (put_here f d flig
     by false later = or_later later (g.conn == d)
 
 pub put_elsewhere : (f : Flight) (d : ℕ) (flights : List Flight) → (f.conn ≡ d → ⊥) → under_way (put_by (λ (g : Flight). g.conn) f flights) d ≡ under_way flights d
-put_elsewhere f d [] other = ap (found_at d f []) (ne_eqb f.conn d other)
-put_elsewhere f d (g ∷ flights) other = by (nat_lt f.conn g.conn) (put_elsewhere f d flights other)
-  where
-    rest : List Flight
-    rest = put_by (λ (h : Flight). h.conn) f flights
-
-    or_later : under_way rest d ≡ under_way flights d → (t : Bool) → found_at d g rest t ≡ found_at d g flights t
-    or_later later true = refl
-    or_later later false = later
-
-    by : (b : Bool) → under_way rest d ≡ under_way flights d → under_way (if b then f ∷ g ∷ flights else g ∷ rest) d ≡ under_way (g ∷ flights) d
-    by true later = ap (found_at d f (g ∷ flights)) (ne_eqb f.conn d other)
-    by false later = or_later later (g.conn == d)
+put_elsewhere f d flights other = ap is_some (put_beside f d flights other)
 
 -- the connection of the one that is found
 found_conn : (d : ℕ) (flights : List Flight) (f : Flight) → find (λ (g : Flight). g.conn == d) flights ≡ Some f → f.conn ≡ d
@@ -214,6 +183,13 @@ module _ {C : Type 0} where
       let M = start_of P reading in
       let t = moment P.state reading in
       outcome_flights M t P.words (plan_of K M t P.words token c) (first_fault (refusals_of K M t P.words token c)) (plan_spares K M t P.words (shown_by M token c) c) ∙ start_flights P reading
+
+  -- the same of a call alone, and of a pass
+  pub ask_flights : (K : Pieces C) (M : State C) (t : ℕ) (words : List ℕ) (token : Option (List ℕ)) (c : Call) → (ask K M t words token c).state.flights ≡ M.flights
+  ask_flights K M t words token c = outcome_flights M t words (plan_of K M t words token c) (first_fault (refusals_of K M t words token c)) (plan_spares K M t words (shown_by M token c) c)
+
+  pub day_flights : (M : State C) (t : ℕ) → (with_daily_pass M t).flights ≡ M.flights
+  day_flights M t = either (nat_lt M.pass_day (t / day)) (with_pass M t) M M.flights (passed_flights t M) refl
 
   -- ---- begins
 

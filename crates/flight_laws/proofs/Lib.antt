@@ -1,0 +1,3 @@
+pub mod Finds
+pub mod Flights
+pub mod Laws

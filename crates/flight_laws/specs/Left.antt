@@ -1,0 +1,12 @@
+-- Which uploads a step leaves under way.
+use Rattle.std.specs.Prelude.{◌≡◌, ℕ}
+use Rattle.b2_model.specs.State.{State}
+use Rattle.b2_model.specs.UploadSteps.{flight_of}
+
+-- the upload of each connection is what it was
+abbrev pub AreLeft : {C : Type 0} → State C → State C → Type 0
+AreLeft M N = (d : ℕ) → flight_of N d ≡ flight_of M d
+
+-- and so is that of each but this one
+abbrev pub OthersAreLeft : {C : Type 0} → ℕ → State C → State C → Type 0
+OthersAreLeft c M N = (d : ℕ) → (c ≡ d → ⊥) → flight_of N d ≡ flight_of M d
