@@ -1,5 +1,5 @@
 -- From the calls to the one contract of all.
-use Rattle.std.proofs.Common.{◌≡◌, true, ℕ, List, Option, Some, refl, sym, ap, subst, ◌∙◌}
+use Rattle.std.proofs.Common.{◌≡◌, true, ℕ, List, Option, refl, sym, ap, subst, ◌∙◌}
 use Rattle.b2_base.specs.declared.extent.Extent.{Extent}
 use Rattle.b2_types.specs.declared.answer.AnswerOf.{AnswerOf}
 use Rattle.b2_types.specs.declared.call.Call.{Call}
@@ -11,12 +11,12 @@ use Rattle.b2_model.specs.Changes.{after_record}
 use Rattle.b2_model.specs.Ask.{Outcome, at_moment}
 use Rattle.b2_model.specs.Stored.{applies_change}
 use Rattle.sound_states.specs.Sound.{IsSound, IsFitChange}
-use Rattle.sound_steps.specs.FitSteps.{Applies, IsFitCall}
+use Rattle.sound_steps.specs.FitSteps.{IsFitCall}
 use Rattle.given_up.specs.AsksForToken.{AsksForToken}
 use Rattle.given_up.proofs.Kept.{token_given}
 use Rattle.core_decisions.specs.declared.decision.Decision.{Decision}
 use Rattle.core_decisions.specs.declared.decision.Decision.TheVariants as decision
-use Rattle.core_decisions.specs.Decided.{ComesTo, IsAnswer, IsDecision, IsDrawn, IsWritable, answering, at_extents, outcome}
+use Rattle.core_decisions.specs.Decided.{ComesTo, IsAnswer, IsDecision, IsDrawn, answering, at_extents, outcome}
 use Rattle.core_decisions.proofs.Asked.{no_copy}
 use Rattle.core_decisions.proofs.Drawn.{undrawn}
 use Rattle.version_core.specs.Decided.{IsDecided, IsUntouched, decided}
