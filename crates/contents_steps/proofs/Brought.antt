@@ -1,7 +1,7 @@
 -- What holds of each content of a state, and of each that a step brings, holds of each after it.
-use Rattle.std.proofs.Common.{◌⊎◌, inl, inr, ℕ, ◌/◌, nat_lt, Bool, true, false, List, [], ◌∷◌, ◌++◌, All, Contains, Option, Some, None, option_map, option_and_then, unwrap_or, if◌then◌else◌, sym, subst}
+use Rattle.std.proofs.Common.{◌≡◌, ◌⊎◌, inl, inr, ℕ, ◌/◌, nat_lt, Bool, true, false, List, [], ◌∷◌, ◌++◌, All, Contains, Option, Some, None, option_map, option_and_then, unwrap_or, if◌then◌else◌, refl, sym, subst}
 use Rattle.std.specs.Option.{is_some}
-use Rattle.std.proofs.lemmas.List.Elements.{All-nil, All-contains, All-contains_itself, All-weaker}
+use Rattle.std.proofs.lemmas.List.Elements.{All-nil, All-contains, All-contains_itself, All-head, All-weaker}
 use Rattle.rule_table.specs.declared.fault.FaultKind.{FaultKind}
 use Rattle.rule_table.specs.declared.fault.FaultKind.TheVariants.{NoBucket, NoFile, NoKey}
 use Rattle.b2_types.specs.declared.bucket.Bucket.{Bucket}
@@ -180,3 +180,16 @@ old_or_brought {C} K R s c at =
     (All-weaker (Contains (contents_of R.state)) P (λ d old. inl old) (contents_of R.state) (All-contains_itself (contents_of R.state)))
     (All-weaker (Contains (brought_by K R s)) P (λ d new. inr new) (brought_by K R s) (All-contains_itself (brought_by K R s))))
     at
+
+-- ---- a call that makes no copy
+
+holds_none : {C : Type 0} (xs : List C) → All (λ c. ⊥) xs → xs ≡ []
+holds_none [] none = refl
+holds_none {C} (x ∷ xs) none = absurd (All-head (λ (c : C). ⊥) x xs none)
+
+-- what it writes brings nothing
+pub brings_none : {C : Type 0} (K : Pieces C) (M : State C) (t : ℕ) (words : List ℕ) (key : Option Key) (c : Call) (ch : ChangeOf C) → copy_made K M c ≡ None → (plan K M t words key c).change ≡ Some ch → brought ch ≡ []
+brings_none {C} K M t words key c ch none is =
+    let P : C → Type 0 = λ d. ⊥ in
+    let brings = plan_brings P K M t words key c (subst (λ o. All P (items (option_map (λ b. b.content) o))) (sym none) (All-nil P)) in
+    holds_none (brought ch) (subst (λ o. All P (brought_in P o)) is brings)

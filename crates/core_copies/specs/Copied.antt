@@ -1,5 +1,5 @@
 -- What a copy comes to: before its bytes are copied, and where a copy of them makes these bytes.
-use Rattle.std.specs.Prelude.{◌≡◌, ℕ, List, Option, Some, None}
+use Rattle.std.specs.Prelude.{◌≡◌, ⊤, ℕ, List, [], ◌∷◌, Option, Some, None}
 use Rattle.b2_base.specs.declared.extent.Extent.{Extent}
 use Rattle.b2_types.specs.declared.call.Call.{Call}
 use Rattle.b2_types.specs.declared.call.ByteRange.{ByteRange}
@@ -10,10 +10,12 @@ use Rattle.b2_model.specs.AskCopies.{copied_span, copy_body}
 use Rattle.b2_model.specs.Checks.{first_fault}
 use Rattle.b2_model.specs.Rows.{version_at}
 use Rattle.b2_model.specs.State.{State}
+use Rattle.contents_agree.specs.ContentsOf.{brought}
 use Rattle.new_versions.specs.Decided.{extent_len}
 use Rattle.copy_calls.specs.Copied.{IsBody}
 use Rattle.copy_calls.specs.declared.file.CopiedBytes.{CopiedBytes}
 use Rattle.core_decisions.specs.declared.decision.Decision.{Decision}
+use Rattle.core_decisions.specs.declared.decision.Decision.TheVariants as decision
 use Rattle.core_decisions.specs.Decided.{Copies, IsWritable, at_extents, outcome}
 use Rattle.core_copies.specs.declared.plan.CopyPlan.{CopyPlan}
 
@@ -32,7 +34,12 @@ pub record IsPlanOf (M : State Extent) (source : VersionId) (range : Option Byte
 abbrev pub Makes : Copies → State Extent → VersionId → Option ByteRange → CopiedBytes → Type 0
 Makes copy M source range bytes = (version : VersionOf Extent) → version_at M source.bucket source.num ≡ Some version → IsBody bytes (copy_body (at_extents copy) version range)
 
+-- what is written brings the copy's content and no other
+abbrev pub BringsCopy : CopiedBytes → Decision → Type 0
+BringsCopy bytes (decision.Reply told) = ⊤
+BringsCopy bytes (decision.Write r told) = brought r.change ≡ bytes.content ∷ []
+
 -- the machine does and answers just so where a copy makes these bytes, and draws no random word
 unfoldable pub IsCopyDecision : State Extent → ℕ → Option (List ℕ) → Call → VersionId → Option ByteRange → CopiedBytes → Decision → Type 0
 IsCopyDecision M t token c source range bytes d =
-    IsWritable M c d × ((copy : Copies) (words : List ℕ) → Makes copy M source range bytes → ask (at_extents copy) M t words token c ≡ outcome M t words d)
+    IsWritable M c d × BringsCopy bytes d × ((copy : Copies) (words : List ℕ) → Makes copy M source range bytes → ask (at_extents copy) M t words token c ≡ outcome M t words d)

@@ -1,14 +1,16 @@
 -- What a call comes to on a state, as the version machine has it.
-use Rattle.std.specs.Prelude.{◌≡◌, ⊤, ℕ, List, Option, Some, None}
+use Rattle.std.specs.Prelude.{◌≡◌, ⊤, ℕ, List, [], Option, Some, None}
 use Rattle.b2_base.specs.declared.extent.Extent.{Extent}
 use Rattle.b2_types.specs.declared.answer.AnswerOf.{AnswerOf}
 use Rattle.b2_types.specs.declared.call.Call.{Call}
+use Rattle.b2_types.specs.declared.call.Call.TheVariants as call
 use Rattle.b2_model.specs.Body.{Body}
 use Rattle.b2_model.specs.State.{State, Pieces}
 use Rattle.b2_model.specs.Changes.{after_record}
 use Rattle.b2_model.specs.Ask.{Outcome, ask, at_moment}
 use Rattle.sound_states.specs.Sound.{IsSound}
 use Rattle.sound_steps.specs.FitSteps.{Applies, IsFitCall}
+use Rattle.contents_agree.specs.ContentsOf.{brought}
 use Rattle.new_versions.specs.Decided.{extent_len}
 use Rattle.core_decisions.specs.declared.decision.Decision.{Decision}
 use Rattle.core_decisions.specs.declared.decision.Decision.TheVariants as decision
@@ -25,11 +27,17 @@ abbrev pub outcome : State Extent → ℕ → List ℕ → Decision → Outcome 
 outcome M t words (decision.Reply told) = record { state = at_moment M t; answer = told; words = words }
 outcome M t words (decision.Write r told) = record { state = after_record (at_moment M t) r; answer = told; words = words }
 
+-- it copies nothing
+abbrev pub IsNoCopy : Call → Type 0
+IsNoCopy (call.CopyFile c) = ⊥
+IsNoCopy (call.CopyPart c) = ⊥
+IsNoCopy other = ⊤
+
 -- What is written applies to the state, and is such as a record may tell, where the state is sound and the
--- lifecycle rules of the call are such as a bucket may have.
+-- lifecycle rules of the call are such as a bucket may have. It brings no content where the call copies none.
 abbrev pub IsWritable : State Extent → Call → Decision → Type 0
 IsWritable M c (decision.Reply told) = ⊤
-IsWritable M c (decision.Write r told) = IsSound M → IsFitCall c → Applies M (Some r.change)
+IsWritable M c (decision.Write r told) = (IsSound M → IsFitCall c → Applies M (Some r.change)) × (IsNoCopy c → brought r.change ≡ [])
 
 -- the machine does and answers just so, and draws no random word
 unfoldable pub IsDecision : State Extent → ℕ → Option (List ℕ) → Call → Decision → Type 0

@@ -47,8 +47,11 @@ module _ (M : State Extent) (t : ℕ) (token : Option (List ℕ)) (c : CreateKey
 
   -- the key's record applies
   writes_key : (words : List ℕ) (k : Key) (secret : List ℕ) → k ≡ new_key M t words c → IsWritable M (call.CreateKey c) (written M.settings t c.version k secret)
-  writes_key words k secret key_is = λ sound fit. subst (λ x. Applies M (Some (change.KeyMake x))) (sym key_is)
-      (ask_applies (at_extents no_copy) M t words token (call.CreateKey c) sound fit (passed_first M t token (call.CreateKey c) (create_rules M t token c) who no_copy words asks passes ∙ none words))
+  writes_key words k secret key_is = (
+    λ sound fit. subst (λ x. Applies M (Some (change.KeyMake x))) (sym key_is)
+        (ask_applies (at_extents no_copy) M t words token (call.CreateKey c) sound fit (passed_first M t token (call.CreateKey c) (create_rules M t token c) who no_copy words asks passes ∙ none words)),
+    λ alone. refl,
+  )
 
   drawn : (ahead left : Option (List ℕ)) (words : List ℕ) (k : Key) (secret : List ℕ) → AreDrawn ahead words left → k ≡ new_key M t words c → secret ≡ secret_text words
       → IsDrawn M t token (call.CreateKey c) ahead left (written M.settings t c.version k secret)

@@ -1,5 +1,5 @@
 -- The end of an upload is decided by the first of its refusals, or by its plan.
-use Rattle.std.proofs.Common.{◌≡◌, ℕ, List, [], ◌++◌, ◌==◌, Option, Some, None, refl, sym, ap, subst, ◌∙◌}
+use Rattle.std.proofs.Common.{◌≡◌, ℕ, List, [], ◌∷◌, ◌++◌, ◌==◌, Option, Some, None, refl, sym, ap, subst, ◌∙◌}
 use Rattle.b2_base.specs.declared.extent.Extent.{Extent}
 use Rattle.rule_table.specs.declared.fault.FaultKind.{FaultKind}
 use Rattle.rule_table.specs.declared.fault.FaultKind.TheVariants.{NoBucket, NoFile}
@@ -30,6 +30,7 @@ use Rattle.sound_states.specs.Sound.{IsFor, IsSound, IsUnderWay}
 use Rattle.sound_states.proofs.Found.{found_has}
 use Rattle.sound_steps.specs.FitSteps.{Applies}
 use Rattle.sound_steps.proofs.Outcomes.{end_applies}
+use Rattle.contents_agree.specs.ContentsOf.{brought}
 use Rattle.new_versions.specs.Decided.{extent_len}
 use Rattle.core_policy.specs.Rules.{standing}
 use Rattle.core_policy.proofs.Order.{by_first, by_next}
@@ -47,11 +48,11 @@ refused_is M t f body fault refuses =
     (tt, λ words. ap (outcome_or_refusal N t words (end_plan extent_len N t (caller_of N (Some f.token)).key body f.upload)) refuses)
 
 written_is : (M : State Extent) (t : ℕ) (f : Flight) (body : Body Extent) (r : RecordOf Extent) (own : List Check) (shown : Shown) → first_fault (end_refusals extent_len M t f body) ≡ None
-    → end_plan extent_len (without_flight M t f.conn) t (caller_of M (Some f.token)).key body f.upload ≡ writes own r.change shown → r.at ≡ t → IsEnd M t f body (decision.Write r (answer.Json shown))
+    → end_plan extent_len (without_flight M t f.conn) t (caller_of M (Some f.token)).key body f.upload ≡ writes own r.change shown → brought r.change ≡ body.content ∷ [] → r.at ≡ t → IsEnd M t f body (decision.Write r (answer.Json shown))
 unfolding IsEnd
-written_is M t f body r own shown passes plan at =
+written_is M t f body r own shown passes plan brings at =
     let N = without_flight M t f.conn in (
-      λ sound. subst (λ (p : Plan Extent). Applies N p.change) plan (end_applies extent_len M t f body sound passes),
+      (λ sound. subst (λ (p : Plan Extent). Applies N p.change) plan (end_applies extent_len M t f body sound passes), brings),
       λ words. ap (outcome_or_refusal N t words (end_plan extent_len N t (caller_of N (Some f.token)).key body f.upload)) passes
           ∙ ap (outcome_of N t words) plan
           ∙ ap (λ n. record { state = after_record (at_moment N t) (record { at = n; change = r.change }); answer = answer.Json shown; words = words }) (sym at),
@@ -97,12 +98,12 @@ module _ {X : Type 0} (M : State Extent) (t : ℕ) (f : Flight) (body : Body Ext
 
   -- its record is written
   pub written : (x : X) (r : RecordOf Extent) (own : List Check) (change : ChangeOf Extent) (shown : Shown) → None ≡ first_fault policy_on → form.thing ≡ Some x → None ≡ first_fault (form.plan x).own
-      → form.plan x ≡ writes own change shown → Some r.change ≡ (form.plan x).change → r.at ≡ t → IsEnd M t f body (decision.Write r (answer.Json shown))
-  written x r own change shown passes found none plan is at =
+      → form.plan x ≡ writes own change shown → Some r.change ≡ (form.plan x).change → brought change ≡ body.content ∷ [] → r.at ≡ t → IsEnd M t f body (decision.Write r (answer.Json shown))
+  written x r own change shown passes found none plan is brings at =
       let same = some_is r.change change (is ∙ ap (λ (p : Plan Extent). p.change) plan) in
       written_is M t f body r own shown
       (ap first_fault rules_are ∙ sym (by_next policy_on own_of passes) ∙ sym (none ∙ ap (λ o. first_fault (or_absent form.absent form.plan o).own) (sym found)))
-      (form.is ∙ ap (or_absent form.absent form.plan) found ∙ plan ∙ ap (λ ch. writes own ch shown) (sym same)) at
+      (form.is ∙ ap (or_absent form.absent form.plan) found ∙ plan ∙ ap (λ ch. writes own ch shown) (sym same)) (ap brought same ∙ brings) at
 
 -- ---- the two kinds
 

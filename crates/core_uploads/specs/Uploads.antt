@@ -13,6 +13,7 @@ use Rattle.b2_model.specs.UploadSteps.{Begun, end, without_flight}
 use Rattle.b2_model.specs.Version.{version_from}
 use Rattle.sound_states.specs.Sound.{IsSound}
 use Rattle.sound_steps.specs.FitSteps.{Applies}
+use Rattle.contents_agree.specs.ContentsOf.{brought}
 use Rattle.new_versions.specs.Decided.{extent_len}
 use Rattle.core_decisions.specs.declared.decision.Decision.{Decision}
 use Rattle.core_decisions.specs.declared.decision.Decision.TheVariants as decision
@@ -22,15 +23,16 @@ use Rattle.core_decisions.specs.Decided.{outcome}
 abbrev pub begun : State Extent → Option Fault → Begun Extent
 begun M fault = record { state = M; fault = fault }
 
--- what is written applies to the state, and is such as a record may tell, where the state is sound
-abbrev pub IsEndWritable : State Extent → Decision → Type 0
-IsEndWritable N (decision.Reply told) = ⊤
-IsEndWritable N (decision.Write r told) = IsSound N → Applies N (Some r.change)
+-- What is written applies to the state, and is such as a record may tell, where the state is sound. It brings the
+-- content of the body and no other.
+abbrev pub IsEndWritable : State Extent → Body Extent → Decision → Type 0
+IsEndWritable N body (decision.Reply told) = ⊤
+IsEndWritable N body (decision.Write r told) = (IsSound N → Applies N (Some r.change)) × (brought r.change ≡ body.content ∷ [])
 
 -- the machine ends the upload just so, on the state without it, and draws no random word
 unfoldable pub IsEnd : State Extent → ℕ → Flight → Body Extent → Decision → Type 0
 IsEnd M t f body d =
-    IsEndWritable (without_flight M t f.conn) d × ((words : List ℕ) → end extent_len M t f body words ≡ outcome (without_flight M t f.conn) t words d)
+    IsEndWritable (without_flight M t f.conn) body d × ((words : List ℕ) → end extent_len M t f body words ≡ outcome (without_flight M t f.conn) t words d)
 
 -- the version that an upload's record makes at this moment
 abbrev pub version_in : ℕ → ChangeOf Extent → Option (VersionOf Extent)

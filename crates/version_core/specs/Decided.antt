@@ -10,13 +10,7 @@ use Rattle.core_decisions.specs.declared.decision.Decision.{Decision}
 use Rattle.core_decisions.specs.declared.decision.Decision.TheVariants as decision
 use Rattle.core_decisions.specs.Decided.{ComesTo, IsWritable}
 
--- it copies nothing
-abbrev pub IsNoCopy : Call → Type 0
-IsNoCopy (call.CopyFile c) = ⊥
-IsNoCopy (call.CopyPart c) = ⊥
-IsNoCopy other = ⊤
-
--- nor does it give a token or draw a word
+-- it copies nothing, and neither gives a token nor draws a word
 abbrev pub IsQuiet : Call → Type 0
 IsQuiet (call.AuthorizeAccount c) = ⊥
 IsQuiet (call.CreateKey c) = ⊥
@@ -32,9 +26,9 @@ abbrev pub decided : State Extent → Decision → List ℕ → Outcome Extent
 decided N (decision.Reply told) rest = record { state = N; answer = told; words = rest }
 decided N (decision.Write r told) rest = record { state = after_record N r; answer = told; words = rest }
 
--- where a record is to be written nothing but the moment has moved
+-- no version has changed, and where a record is to be written nothing but the moment has
 abbrev pub IsUntouched : State Extent → ℕ → State Extent → Decision → Type 0
-IsUntouched M t N (decision.Reply told) = ⊤
+IsUntouched M t N (decision.Reply told) = N.versions ≡ M.versions
 IsUntouched M t N (decision.Write r told) = N ≡ at_moment M t
 
 -- The machine does and answers just so from the state on that the call leaves before its record, which is the one

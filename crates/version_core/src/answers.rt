@@ -6,8 +6,7 @@ ghost use Rattle.b2_model.specs.Changes.{after_record};
 ghost use Rattle.b2_model.specs.Stored.{applies_change};
 ghost use Rattle.sound_states.specs.Sound.{IsFitChange};
 ghost use Rattle.sound_steps.specs.FitSteps.{IsFitCall};
-ghost use Rattle.core_decisions.specs.Decided.{IsAnswer};
-ghost use Rattle.version_core.specs.Decided.{IsNoCopy};
+ghost use Rattle.core_decisions.specs.Decided.{IsAnswer, IsNoCopy};
 
 use crate::decisions::decide;
 use b2_base::{Memory, Moment};

@@ -2,7 +2,8 @@
 
 ghost use Rattle.std.specs.Prelude.{◌≤◌, IfOk};
 ghost use Rattle.std.specs.Option.{option_copied};
-ghost use Rattle.version_core.specs.Decided.{IsDecided, IsNoCopy};
+ghost use Rattle.core_decisions.specs.Decided.{IsNoCopy};
+ghost use Rattle.version_core.specs.Decided.{IsDecided};
 
 use crate::quiet::decide_quietly;
 use b2_base::{Memory, Moment};

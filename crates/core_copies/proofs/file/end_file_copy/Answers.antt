@@ -23,6 +23,7 @@ use Rattle.b2_model.specs.Rows.{version_at}
 use Rattle.b2_model.specs.Shown.{shown_file}
 use Rattle.b2_model.specs.State.{bucket_at}
 use Rattle.b2_model.specs.Version.{version_from}
+use Rattle.contents_agree.specs.ContentsOf.{brought}
 use Rattle.new_versions.specs.Decided.{extent_len}
 use Rattle.copy_calls.specs.declared.file.FilePlan.{FilePlan}
 use Rattle.policy_rules.specs.Asked.{caller}
@@ -45,7 +46,7 @@ returns-in-Err c =
     let who = caller c.asker_of-asker.result in
     let form = file_form M t token q in
     let same = ap (λ more. file_rules M t q who more c.target_of-target.result) c.more_for-more.ensures ∙ ap (file_rules M t q who (more_caps (calls.CopyFile q))) c.target_of-target.ensures in
-    decided_anyway M t token (calls.CopyFile q) q.source q.range c.args.bytes.now c.plain_refusal.result
+    decided_anyway M t token (calls.CopyFile q) q.source q.range c.args.bytes.now c.plain_refusal.result (answer.Refused (plain c.in-Err.kind)) c.plain_refusal.ensures
     (denied_by M t token (calls.CopyFile q) form who (plain c.in-Err.kind) c.plain_refusal.result c.asker_of-asker.ensures c.plain_refusal.ensures (c.in-Err.ensures.rules ∙ same))
 
 pub returns-in-Err-judged : goal.returns-in-Err-judged
@@ -66,7 +67,7 @@ returns-in-Err-judged c =
     let bucket = one_stands b v o w found in
     let version = other_stands b v o w found in
     IfOk-weaker c.not_copied.result (λ d. (fault : Fault) × (c.in-Err-judged.error ≡ or.Fault fault) × (d ≡ decision.Reply (answer.Refused fault))) (IsCopyDecision M t token (calls.CopyFile q) q.source q.range c.args.bytes.now)
-    (λ d told. decided_anyway M t token (calls.CopyFile q) q.source q.range c.args.bytes.now d
+    (λ d told. decided_anyway M t token (calls.CopyFile q) q.source q.range c.args.bytes.now d (answer.Refused told.0) told.2
     (refused_by M t token (calls.CopyFile q) form who told.0 d c.asker_of-asker.ensures told.2 (c.in-Ok.ensures.rules ∙ same)
     (λ copy words.
     subst (λ (e : Or Fault). IfFault {T = FilePlan} (Err e) (λ f. Some f ≡ first_fault (copy_file (at_extents copy) M key t q).own)) told.1 (c.in-Err-judged.ensures.refused copy key bucket version)
@@ -140,4 +141,4 @@ returns c =
           ∙ ap (λ ch. writes own ch (shown.File (shown_file extent_len M.settings key new))) (sym change_is)
           ∙ ap (λ s. writes own r.change (shown.File s)) (sym shown_is),
     ))
-    decided.0
+    (ap brought change_is) decided.0

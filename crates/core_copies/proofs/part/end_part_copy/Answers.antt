@@ -20,6 +20,7 @@ use Rattle.b2_model.specs.Checks.{first_fault}
 use Rattle.b2_model.specs.Plan.{Plan, id_of, or_absent, writes}
 use Rattle.b2_model.specs.Rows.{version_at}
 use Rattle.b2_model.specs.Shown.{shown_part}
+use Rattle.contents_agree.specs.ContentsOf.{brought}
 use Rattle.new_versions.specs.Decided.{extent_len}
 use Rattle.policy_rules.specs.Asked.{caller}
 use Rattle.core_decisions.specs.Decided.{at_extents}
@@ -38,7 +39,7 @@ returns-in-Err c =
     let token = option_copied c.args.token in
     let who = caller c.asker_of-asker.result in
     let form = part_form M t token q in
-    decided_anyway M t token (calls.CopyPart q) q.source q.range c.args.bytes.now c.plain_refusal.result
+    decided_anyway M t token (calls.CopyPart q) q.source q.range c.args.bytes.now c.plain_refusal.result (answer.Refused (plain c.in-Err.kind)) c.plain_refusal.ensures
     (denied_by M t token (calls.CopyPart q) form who (plain c.in-Err.kind) c.plain_refusal.result c.asker_of-asker.ensures c.plain_refusal.ensures c.in-Err.ensures.rules)
 
 pub returns-in-Err-judged : goal.returns-in-Err-judged
@@ -56,7 +57,7 @@ returns-in-Err-judged c =
     let version = one_stands v large o w c.in-Ok.ensures.found in
     let file = other_stands v large o w c.in-Ok.ensures.found in
     IfOk-weaker c.not_copied.result (λ d. (fault : Fault) × (c.in-Err-judged.error ≡ or.Fault fault) × (d ≡ decision.Reply (answer.Refused fault))) (IsCopyDecision M t token (calls.CopyPart q) q.source q.range c.args.bytes.now)
-    (λ d told. decided_anyway M t token (calls.CopyPart q) q.source q.range c.args.bytes.now d
+    (λ d told. decided_anyway M t token (calls.CopyPart q) q.source q.range c.args.bytes.now d (answer.Refused told.0) told.2
     (refused_by M t token (calls.CopyPart q) form who told.0 d c.asker_of-asker.ensures told.2 c.in-Ok.ensures.rules
     (λ copy words.
     subst (λ (e : Or Fault). IfFault {T = Span} (Err e) (λ f. Some f ≡ first_fault (copy_part (at_extents copy) M t q).own)) told.1 (c.in-Err-judged.ensures.refused copy version file)
@@ -96,4 +97,4 @@ returns c =
           ∙ ap (λ ch. writes own ch (shown.Part (part bytes.content bytes.digest))) (sym change_is)
           ∙ ap (λ s. writes own r.change (shown.Part s)) (sym c.show_copied-shown.ensures),
     ))
-    decided.0
+    (ap brought change_is) decided.0

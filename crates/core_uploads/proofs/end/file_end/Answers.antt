@@ -77,4 +77,4 @@ returns c =
     of_upload M t f body (uploads.File u) (decision.Write r (answer.Json (shown.File c.in_ok-shown.shown))) c.requires
     (written M t (with_upload f (uploads.File u)) body (file_form M t f body u) (caller c.asker_of-asker.result) asks
     bucket r own made (shown.File c.in_ok-shown.shown) c.in-Ok.ensures.rules c.in-Ok.ensures.found decided.0
-    (ap (λ s. writes own made (shown.File s)) (sym shown_is)) decided.1.1 decided.1.0)
+    (ap (λ s. writes own made (shown.File s)) (sym shown_is)) decided.1.1 refl decided.1.0)

@@ -1,4 +1,4 @@
-use Rattle.std.proofs.Common.{Some, sym, ap, ◌∙◌}
+use Rattle.std.proofs.Common.{Some, refl, sym, ap, ◌∙◌}
 use Rattle.b2_types.specs.Fault.{plain}
 use Rattle.b2_types.specs.declared.answer.AnswerOf.TheVariants as answer
 use Rattle.b2_types.specs.declared.record.ChangeOf.TheVariants as change
@@ -57,4 +57,4 @@ returns c =
     of_upload M t f body (uploads.Part u) (decision.Write r (answer.Json (shown.Part c.show_part-shown.result))) c.requires
     (written M t (with_upload f (uploads.Part u)) body (part_form M t f body u) (caller c.asker_of-asker.result) asks
     v r own change_is (shown.Part c.show_part-shown.result) c.in-Ok.ensures.rules c.in-Ok.ensures.found c.in-Ok-put_part.ensures.0
-    (ap (λ s. writes own change_is (shown.Part s)) (sym shown_is)) c.in-Ok-put_part.ensures.1.1 c.in-Ok-put_part.ensures.1.0)
+    (ap (λ s. writes own change_is (shown.Part s)) (sym shown_is)) c.in-Ok-put_part.ensures.1.1 refl c.in-Ok-put_part.ensures.1.0)
