@@ -1,5 +1,5 @@
 -- What the plan of a call sends: a content of the state, and it does nothing else.
-use Rattle.std.proofs.Common.{◌≡◌, ℕ, ◌+◌, ◌≤◌, false, not, ◌&&◌, ◌==◌, List, [], ◌∷◌, All, Contains, Option, Some, None, option_and_then, unwrap_or, bytes_eq, refl, arith}
+use Rattle.std.proofs.Common.{◌≡◌, ℕ, false, not, ◌&&◌, ◌==◌, List, [], ◌∷◌, All, Contains, Option, Some, None, option_and_then, unwrap_or, bytes_eq, refl, arith}
 use Rattle.std.specs.Prelude.{⊤}
 use Rattle.std.proofs.lemmas.List.Elements.{All-weaker, All-contains_itself}
 use Rattle.rule_table.specs.declared.fault.FaultKind.{FaultKind}

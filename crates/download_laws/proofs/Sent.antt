@@ -1,7 +1,7 @@
 -- What is sent where a call, or the step of one, is answered with a content.
-use Rattle.std.proofs.Common.{◌≡◌, ℕ, List, [], ◌∷◌, ◌++◌, All, Contains, Option, Some, None, length, take, drop, flat_map, unwrap_or, if◌then◌else◌, refl, sym, ap, subst, ◌∙◌, append-nil}
+use Rattle.std.proofs.Common.{◌≡◌, ℕ, List, ◌++◌, Contains, Option, Some, None, length, take, drop, flat_map, unwrap_or, if◌then◌else◌, refl, sym, ap, subst, ◌∙◌, append-nil, arith}
 use Rattle.std.specs.Prelude.{⊤}
-use Rattle.std.proofs.lemmas.List.{take-length}
+use Rattle.std.proofs.lemmas.List.{take_all}
 use Rattle.std.proofs.lemmas.List.Elements.{All-weaker, All-contains}
 use Rattle.b2_types.specs.declared.fault.Fault.{Fault}
 use Rattle.b2_types.specs.declared.answer.AnswerOf.{AnswerOf}
@@ -13,8 +13,7 @@ use Rattle.b2_model.specs.Checks.{first_fault}
 use Rattle.b2_model.specs.State.{State, Pieces, length_of}
 use Rattle.b2_model.specs.Plan.{Plan}
 use Rattle.b2_model.specs.Policy.{caller_of}
-use Rattle.b2_model.specs.Ask.{ask, at_moment, plan_of, shown_by, refusals_of, is_open, first_rules, outcome_or_refusal}
-use Rattle.b2_types.specs.declared.record.ChangeOf.{ChangeOf}
+use Rattle.b2_model.specs.Ask.{ask, plan_of, shown_by, refusals_of, is_open, first_rules, outcome_or_refusal}
 use Rattle.b2_model.specs.Run.{asks, Progress, moment, start_of, ask_step, answer_to, step}
 use Rattle.machine_laws.specs.Ranges.{AsksInOrder}
 use Rattle.machine_laws.proofs.Passed.{none_in}
@@ -25,7 +24,7 @@ use Rattle.step_records.specs.StepRecords.{record_of, pass_records, records_of}
 use Rattle.contents_agree.specs.ContentsOf.{contents_of}
 use Rattle.download_laws.specs.Sent.{StandsIn, span_sent, LiesIn, HaveSizes, bytes_sent, sending}
 use Rattle.download_laws.proofs.Spans.{all_bytes, cut_length}
-use Rattle.download_laws.proofs.Plans.{IsSent, OfContent, Sends, plan_sends}
+use Rattle.download_laws.proofs.Plans.{IsSent, OfContent, plan_sends}
 
 abbrev IsContent : {C : Type 0} → AnswerOf C → Type 0
 IsContent (answer.Content x) = ⊤
@@ -91,12 +90,12 @@ module _ {C : Type 0} (P : Pieces C) (M : State C) (t : ℕ) (words : List ℕ) 
 
   pub sent_whole : (token : Option (List ℕ)) (c : Call) (x : ContentOf C) (bytes : C → List ℕ) → (ask P M t words token c).answer ≡ answer.Content x → HaveSizes P.size bytes M → x.range ≡ None → bytes_sent bytes x ≡ flat_map bytes x.content
   sent_whole token c x bytes is sizes all =
-      let n = sent_bytes token c x bytes is sizes in
-      rw (all, sym n) (take-length (flat_map bytes x.content))
+      ap (λ o. let s = unwrap_or o (record { at = 0; len = x.file.length }) in take s.len (drop s.at (flat_map bytes x.content))) all
+      ∙ take_all x.file.length (flat_map bytes x.content) (omega (arith, sent_bytes token c x bytes is sizes))
 
 -- ---- steps
 
-nothing : {X : Type 0} (o : Option Fault) → unless_refused {X} o None ≡ None
+nothing : {X : Type 0} (o : Option Fault) → unless_refused {X = X} o None ≡ None
 nothing None = refl
 nothing (Some fault) = refl
 

@@ -1,8 +1,9 @@
 -- The bytes of a range, and how many bytes pieces have together.
-use Rattle.std.proofs.Common.{◌≡◌, ℕ, ◌+◌, ◌≤◌, false, List, [], ◌∷◌, All, Option, Some, None, length, take, drop, flat_map, sum_by, refl, ap, ◌∙◌, arith}
+use Rattle.std.proofs.Common.{◌≡◌, ℕ, ◌+◌, false, List, [], ◌∷◌, All, length, take, drop, flat_map, sum_by, refl, sym, ap, ◌∙◌, arith}
 use Rattle.std.proofs.lemmas.Bool.Decides.{nat_tests}
 use Rattle.std.proofs.lemmas.List.{length-take-le, length-drop}
 use Rattle.std.proofs.lemmas.List.Concat.{length-flat_map}
+use Rattle.std.proofs.lemmas.List.Sums.{sum_by-cons}
 use Rattle.std.proofs.lemmas.List.Elements.{All-head, All-tail}
 use Rattle.b2_types.specs.declared.answer.Span.{Span}
 use Rattle.b2_types.specs.declared.call.ByteRange.{ByteRange}
@@ -21,7 +22,10 @@ module _ {C : Type 0} (size : C → ℕ) (bytes : C → List ℕ) where
   same_sum [] each = refl
   same_sum (c ∷ cs) each =
       let here : length (bytes c) ≡ size c = All-head (λ c. length (bytes c) ≡ size c) c cs each in
-      rw (here, same_sum cs (All-tail (λ c. length (bytes c) ≡ size c) c cs each)) refl
+      sum_by-cons (λ d. length (bytes d)) c cs
+      ∙ ap (λ n. n + sum_by (λ d. length (bytes d)) cs) here
+      ∙ ap (λ n. size c + n) (same_sum cs (All-tail (λ c. length (bytes c) ≡ size c) c cs each))
+      ∙ sym (sum_by-cons size c cs)
 
   pub all_bytes : (pieces : List C) → All (λ c. length (bytes c) ≡ size c) pieces → length (flat_map bytes pieces) ≡ sum_by size pieces
   all_bytes pieces each = length-flat_map bytes pieces ∙ same_sum pieces each
