@@ -7,7 +7,7 @@ use Rattle.b2_model.specs.State.{State}
 use Rattle.b2_model.specs.Ask.{Outcome, at_moment}
 use Rattle.contents_agree.specs.ContentsOf.{contents_of}
 
--- each of its pieces is one of the state's contents
+-- each piece of the content is one of the state's contents
 abbrev pub StandsIn : {C : Type 0} → State C → ContentOf C → Type 0
 StandsIn M x = All (Contains (contents_of M)) x.content
 
@@ -23,7 +23,7 @@ LiesIn length span = span.at + span.len ≤ length
 abbrev pub HaveSizes : {C : Type 0} → (C → ℕ) → (C → List ℕ) → State C → Type 0
 HaveSizes size bytes M = All (λ c. length (bytes c) ≡ size c) (contents_of M)
 
--- the bytes that are sent
+-- the bytes that are sent, where pieces stand for these bytes
 abbrev pub bytes_sent : {C : Type 0} → (C → List ℕ) → ContentOf C → List ℕ
 bytes_sent bytes x = take (span_sent x).len (drop (span_sent x).at (flat_map bytes x.content))
 
