@@ -1,3 +1,3 @@
-mod Spans
-mod Plans
-mod Sent
+pub mod Spans
+pub mod Plans
+pub mod Sent

@@ -35,7 +35,7 @@ pub fn sent_stands<C>()
 {}
 
 /// The length that is shown beside a content is that of its pieces, also by the bytes that they
-/// stand for.
+/// stand for, where these are as many as the sizes say.
 #[tactic(auto)]
 pub fn sent_length<C>()
     ensures pieces { (P : Pieces C) (M : State C) (t : ℕ) (words : List ℕ)
