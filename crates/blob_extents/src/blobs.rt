@@ -111,6 +111,16 @@ impl Blobs {
         Ok(s.keep())
     }
 
+    /// The handle of a content, for an owner that knows where it stands and keeps no handles.
+    pub fn kept(&self, e: Extent) -> Kept
+        requires { IsInUse self.now e }
+        ensures { kept_extent result ≡ e }
+    {
+        // That the room is tidy, and so ends before its limit, is known from here on.
+        let _ = self.space.end();
+        Kept::new(e)
+    }
+
     /// Gives back the extent of a content that nobody wants. At `Err` it stays in use.
     pub fn give_up(&mut self, s: Spent) -> Result<(), Memory>
         requires { IsInUse self.old (spent_extent s) }

@@ -1,0 +1,12 @@
+pub mod Updates
+pub mod Rooms
+pub mod Holdings
+pub mod MoreBytes
+pub mod Lists
+pub mod Counts
+pub mod Pieces
+pub mod Unpins
+pub mod OnlyRead
+pub mod Parts
+pub mod Sealing
+pub mod Releasing

@@ -1,0 +1,1 @@
+use Rattle.stored_contents.proofs.contents.Contents.release.Goals as goal

@@ -1,0 +1,4 @@
+pub mod Room
+pub mod Held
+pub mod Reads
+pub mod Sealed
