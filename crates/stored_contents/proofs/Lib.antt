@@ -8,5 +8,6 @@ pub mod Pieces
 pub mod Unpins
 pub mod OnlyRead
 pub mod Parts
+pub mod Reading
 pub mod Sealing
 pub mod Releasing

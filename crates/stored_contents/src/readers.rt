@@ -1,10 +1,11 @@
 //! Contents that are read.
 
-ghost use Rattle.std.specs.Prelude.{◌≡◌, List, [], map, All, Contains, IfOk, OnOk, take, drop};
-ghost use Rattle.std.specs.List.{flat_map};
+ghost use Rattle.std.specs.Prelude.{◌≡◌, ◌==◌, List, [], None, map, All, Contains, IfOk, OnOk, length, take, drop};
+ghost use Rattle.std.specs.List.{flat_map, position};
 ghost use Rattle.b2_base.specs.declared.extent.Extent.{Extent as Place};
-ghost use Rattle.stored_contents.specs.Held.{Holding, IsHeld, with_read};
 ghost use Rattle.blob_extents.specs.States.{pin_extent};
+ghost use Rattle.stored_contents.specs.Held.{Holding, IsHeld, read_by, with_read};
+ghost use Rattle.stored_contents.specs.Reads.{IsRead, outgoing_at, zeros_of};
 ghost use Rattle.stored_contents.specs.Room.{IsRoom, IsRoomWith};
 
 use crate::contents::Contents;
@@ -36,11 +37,7 @@ impl Contents {
             })) }
     {
         self.end_reading(_disk, c)?;
-        let mut pins = Vec::new(alloc);
-        for piece in pieces {
-            let kept = self.blobs.kept(*piece);
-            pins.push(self.blobs.pin(&kept)?)?;
-        }
+        let pins = self.pin_all(alloc, pieces)?;
         self.outgoing.push(Outgoing {
             reader: c,
             pins,
@@ -61,6 +58,9 @@ impl Contents {
     ) -> Result<Vec<u8>, Or<DiskFault>>
         ensures bytes { (h : Holding) → IsHeld self.now (D.state disk.old) h
             → IfOk result (λ bytes. bytes.items ≡ take most (drop at (h.read c))) }
+        ensures count { IfOk result (λ bytes. length bytes.items
+            ≡ length (take most (drop at (read_by zeros_of (outgoing_at self.now c))))) }
+        ensures rests { IsRead (D.state disk.old) (D.state disk.new) }
         ensures held { (h : Holding) → IsHeld self.now (D.state disk.old) h
             → IsHeld self.now (D.state disk.new) h }
     {
@@ -79,28 +79,56 @@ impl Contents {
             → OnOk result (IsHeld self.new (D.state _disk.now) (record h {
               read = with_read h.read c [];
             })) }
+        ensures none { OnOk result (outgoing_at self.new c ≡ None) }
     {
-        while let Some(place) = self.outgoing.iter().position(|reading| reading.reader == c) {
+        while let Some(place) = self.place_of(c) {
             let Outgoing {
                 reader: _,
                 pins,
                 at: _,
                 len: _,
             } = self.outgoing.remove(place);
-            self.unpin_all(_disk, pins)?;
+            self.unpin_all(pins)?;
         }
         Ok(())
     }
 
-    // These looks end, which are no reader's any longer.
-    fn unpin_all<D: Disk>(&mut self, _disk: &D, pins: Vec<Pin>) -> Result<(), Memory>
-        requires { (owned : List Place) × IsRoomWith self.old owned (map pin_extent pins.items) }
-        ensures room { (owned : List Place) → IsRoomWith self.old owned (map pin_extent pins.items)
-            → OnOk result (IsRoom self.new owned) }
+    // Where a content of this reader stands.
+    fn place_of(&self, c: u64) -> Option<usize>
+        ensures { result ≡ position (λ o. o.reader == c) self.now.outgoing.items }
+    {
+        self.outgoing.iter().position(|reading| reading.reader == c)
+    }
+
+    // These owned contents are looked at, for a reader that is to come.
+    fn pin_all(&mut self, alloc: Global, pieces: &[Extent]) -> Result<Vec<Pin>, Memory>
+        requires { (owned : List Place) × IsRoom self.old owned × All (Contains owned) pieces.now }
+        ensures room { (owned : List Place) → IsRoom self.old owned → All (Contains owned) pieces.now
+            → IfOk result (λ pins. IsRoomWith self.new owned (map pin_extent pins.items)) }
+        ensures pieces { IfOk result (λ pins. map pin_extent pins.items ≡ pieces.now) }
+        ensures released { self.new.blobs.released ≡ self.old.blobs.released }
         ensures incoming { self.new.incoming.entries ≡ self.old.incoming.entries }
         ensures outgoing { self.new.outgoing.items ≡ self.old.outgoing.items }
     {
-        for pin in pins {
+        let mut pins = Vec::new(alloc);
+        for piece in pieces {
+            let kept = self.blobs.kept(*piece);
+            pins.push(self.blobs.pin(&kept)?)?;
+        }
+        Ok(pins)
+    }
+
+    // These looks end, which are no reader's any longer.
+    fn unpin_all(&mut self, mut pins: Vec<Pin>) -> Result<(), Memory>
+        requires { (owned : List Place) × IsRoomWith self.old owned (map pin_extent pins.items) }
+        ensures room { (owned : List Place) → IsRoomWith self.old owned (map pin_extent pins.items)
+            → OnOk result (IsRoom self.new owned) }
+        ensures released { OnOk result
+            (All (Contains self.old.blobs.released) self.new.blobs.released) }
+        ensures incoming { self.new.incoming.entries ≡ self.old.incoming.entries }
+        ensures outgoing { self.new.outgoing.items ≡ self.old.outgoing.items }
+    {
+        while let Some(pin) = pins.pop() {
             self.blobs.unpin(pin)?;
         }
         Ok(())
