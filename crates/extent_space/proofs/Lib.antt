@@ -1,5 +1,6 @@
 mod Cuts
 mod Fits
+pub mod InUse
 mod Joins
 pub mod OneRoom
 mod Raises
