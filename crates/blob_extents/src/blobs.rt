@@ -1,6 +1,6 @@
 //! The room of contents, and who holds extents in it.
 
-ghost use Rattle.std.specs.Prelude.{◌≡◌, ◌+◌, ◌^◌, ◌≤◌, ◌++◌, ℕ, List, [], ◌∷◌, length, map, All, Contains, IsOk, IfOk, OnOk, OnErr, IfErr, Some, None};
+ghost use Rattle.std.specs.Prelude.{◌≡◌, ◌+◌, ◌^◌, ◌≤◌, ◌++◌, ℕ, List, [], ◌∷◌, length, map, All, Contains, IsOk, IfOk, OnOk, OnErr, IfErr, IfSome, IsSome, Some, None};
 ghost use Rattle.std.specs.Bool.{OnTrue, OnFalse};
 ghost use Rattle.std.specs.List.{AllPairs};
 ghost use Rattle.b2_base.specs.Failure.{IfFault};
@@ -111,14 +111,43 @@ impl Blobs {
         Ok(s.keep())
     }
 
-    /// The handle of a content, for an owner that knows where it stands and keeps no handles.
-    pub fn kept(&self, e: Extent) -> Kept
-        requires { IsInUse self.now e }
-        ensures { kept_extent result ≡ e }
+    /// Whether the extent is in use.
+    pub fn is_in_use(&self, e: Extent) -> bool
+        ensures yes { OnTrue result (IsInUse self.now e) }
+        ensures no { OnFalse result (IsInUse self.now e → ⊥) }
     {
+        if e.len == 0 {
+            return e.at == 0;
+        }
+        self.space.is_taken(e)
+    }
+
+    /// Whether the look is one at a content of this room.
+    pub fn is_pinned(&self, p: &Pin) -> bool
+        ensures yes { OnTrue result
+            (Contains self.now.pinned (pin_extent p.now) × IsInUse self.now (pin_extent p.now)) }
+        ensures no { OnFalse result (Contains self.now.pinned (pin_extent p.now)
+            → IsInUse self.now (pin_extent p.now) → ⊥) }
+    {
+        let extent = p.extent();
+        if !self.is_in_use(extent) {
+            return false;
+        }
+        self.pinned.contains(&extent)
+    }
+
+    /// The handle of a content, for an owner that knows where it stands and keeps no handles: None
+    /// where the extent is not in use.
+    pub fn kept(&self, e: Extent) -> Option<Kept>
+        ensures in_use { IfSome result (λ k. (kept_extent k ≡ e) × IsInUse self.now e) }
+        ensures none { IsInUse self.now e → IsSome result }
+    {
+        if !self.is_in_use(e) {
+            return None;
+        }
         // That the room is tidy, and so ends before its limit, is known from here on.
         let _ = self.space.end();
-        Kept::new(e)
+        Some(Kept::new(e))
     }
 
     /// Gives back the extent of a content that nobody wants. At `Err` it stays in use.

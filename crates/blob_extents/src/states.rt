@@ -74,6 +74,13 @@ impl Staging {
         self.extent.len - self.filled
     }
 
+    /// How many bytes came.
+    pub fn filled(&self) -> u64
+        ensures { result ≡ staging_filled self.now }
+    {
+        self.filled
+    }
+
     /// Writes a piece after those that came, and keeps the digest. Nothing is buffered.
     pub fn push<D: Disk>(
         mut self,
@@ -185,6 +192,13 @@ impl Spent {
 
     pub(crate) fn place(self) -> Extent
         ensures { result ≡ spent_extent self }
+    {
+        self.extent
+    }
+
+    /// Where it stands.
+    pub fn extent(&self) -> Extent
+        ensures { result ≡ spent_extent self.now }
     {
         self.extent
     }
