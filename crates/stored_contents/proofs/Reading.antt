@@ -26,7 +26,8 @@ use Rattle.stored_contents.specs.Room.{IsRoom, IsRoomWith, IsStaged, AreApart, e
 use Rattle.stored_contents.proofs.Counts.{times_both, times_around, times_pieces, some_there, there_some}
 use Rattle.stored_contents.proofs.Lists.{in_pieces, found_there}
 use Rattle.stored_contents.proofs.OnlyRead.{safe_still}
-use Rattle.stored_contents.proofs.Unpins.{Unpins, still_whole, in_use_after, apart_after, all_after, other_after, pinned_after}
+use Rattle.stored_contents.specs.Changes.{Unpins}
+use Rattle.stored_contents.proofs.Unpins.{still_whole, in_use_after, apart_after, all_after, other_after, pinned_after}
 
 pub same_incoming : (old new : Contents) → new.incoming.entries ≡ old.incoming.entries → (q : ℕ) → incoming_at new q ≡ incoming_at old q
 same_incoming old new same q = ap (at q) same

@@ -1,8 +1,8 @@
 -- The owner of a content gives it up.
-use Rattle.std.proofs.Common.{◌≡◌, ◌==◌, ◌⊎◌, inl, inr, suc, ◌<◌, List, [], ◌∷◌, ◌++◌, length, get_or, find, Option, Some, None, IfSome, All, Contains, Vec, Global, nat_cmp, refl, sym, ap, ◌∙◌, subst, arith}
+use Rattle.std.proofs.Common.{◌≡◌, ◌==◌, ◌⊎◌, inl, inr, ℕ, suc, ◌+◌, ◌<◌, List, [], ◌∷◌, ◌++◌, length, get_or, drop, find, Option, Some, None, IfSome, All, Contains, Vec, Global, nat_cmp, refl, sym, ap, ◌∙◌, subst, arith}
 use Rattle.std.specs.List.{AllPairs, flat_map}
 use Rattle.std.specs.BTreeMap.{get}
-use Rattle.std.proofs.lemmas.List.{append_assoc}
+use Rattle.std.proofs.lemmas.List.{append_assoc, drop_more}
 use Rattle.std.proofs.lemmas.List.Elements.{All-head, All-tail, All-push, All-contains, All-contains_itself, Contains-append_cases, Contains-append_left, Contains-append_right}
 use Rattle.std.proofs.lemmas.List.Quantifiers.{all_pairs_push}
 use Rattle.b2_base.specs.declared.extent.Extent.{Extent}
@@ -16,6 +16,7 @@ use Rattle.stored_contents.specs.declared.incoming.Incoming.{Incoming}
 use Rattle.stored_contents.specs.declared.outgoing.Outgoing.{Outgoing}
 use Rattle.stored_contents.specs.Held.{Holding, IsHeld, IsComing, read_by}
 use Rattle.stored_contents.specs.Room.{AreApart, IsRoom, IsRoomWith, IsStaged, extent_of, incoming_at, live, pins_of, times}
+use Rattle.stored_contents.specs.Changes.{Releases}
 use Rattle.stored_contents.proofs.Counts.{is_there}
 use Rattle.stored_contents.proofs.Rooms.{apart_sym}
 
@@ -44,12 +45,6 @@ module _ {X : Type 0} (e : X) (xs ys : List X) where
 
 -- ---- the room
 
--- What a release comes to: the extent goes back at once where no pin holds it, else with its last one.
-pub record Releases (e : Extent) (old new : Uses) : Type 0 where
-  pub pinned : new.pinned ≡ old.pinned
-  pub others : (f : Extent) → Apart e f → IsInUse old f → IsInUse new f
-  pub how : ((Contains old.pinned e → ⊥) × (new.released ≡ old.released)) ⊎ ((new.room ≡ old.room) × (new.released ≡ old.released ++ e ∷ []))
-
 pub releases : (e : Extent) (old new : Uses) → new.pinned ≡ old.pinned → ((f : Extent) → Apart e f → IsInUse old f → IsInUse new f)
     → (Contains old.pinned e → (new.room ≡ old.room) × (new.released ≡ old.released ++ e ∷ []))
     → ((Contains old.pinned e → ⊥) → GivesBack old.room e new.room × (new.released ≡ old.released))
@@ -59,6 +54,13 @@ releases e old new pinned others held back = record { pinned = pinned; others = 
     by : Contains old.pinned e ⊎ (Contains old.pinned e → ⊥) → ((Contains old.pinned e → ⊥) × (new.released ≡ old.released)) ⊎ ((new.room ≡ old.room) × (new.released ≡ old.released ++ e ∷ []))
     by (inl there) = inr (held there)
     by (inr absent) = inl (absent, (back absent).1)
+
+-- as the call on the room tells it
+pub releases_at : (e f : Extent) (old new : Uses) → f ≡ e → new.pinned ≡ old.pinned → ((g : Extent) → Apart f g → IsInUse old g → IsInUse new g)
+    → (Contains old.pinned f → (new.room ≡ old.room) × (new.released ≡ old.released ++ f ∷ []))
+    → ((Contains old.pinned f → ⊥) → GivesBack old.room f new.room × (new.released ≡ old.released))
+    → Releases e old new
+releases_at e f old new is pinned others held back = subst (λ x. Releases x old new) is (releases f old new pinned others held back)
 
 module _ (old new : Contents) (owned : List Extent) (e : Extent) (gives : Releases e old.blobs new.blobs) where
   abbrev others_of : List Extent
@@ -134,3 +136,26 @@ module _ (old new : Contents) (owned : List Extent) (e : Extent) (gives : Releas
     uploads = λ q. subst (λ m. IsComing d (get nat_cmp m q) (h.came q)) (sym uploads) (held.uploads q);
     readers = λ q. held.readers q ∙ ap (λ (os : Vec Outgoing Global). read_by h.meaning (find (λ o. o.reader == q) os.items)) (sym readers);
   }
+
+-- ---- the next of several
+
+module _ (old new : Contents) (freed rest : List Extent) (i : ℕ) (d : Extent) (within : i < length freed)
+    (gives : IsInUse old.blobs (get_or freed i d) → Releases (get_or freed i d) old.blobs new.blobs)
+    (uploads : new.incoming ≡ old.incoming) (readers : new.outgoing ≡ old.outgoing) where
+  abbrev left_over : List Extent
+  left_over = drop (i + 1) freed ++ rest
+
+  next : drop i freed ++ rest ≡ get_or freed i d ∷ left_over
+  next = ap (λ l. l ++ rest) (drop_more freed i d within)
+
+  released : IsRoom old (get_or freed i d ∷ left_over) → Releases (get_or freed i d) old.blobs new.blobs
+  released room = gives (All-head (IsInUse old.blobs) (get_or freed i d) (left_over ++ old.blobs.released) room.in_use)
+
+  pub room_next : IsRoom old (drop i freed ++ rest) → IsRoom new left_over
+  room_next room =
+      let here : IsRoom old (get_or freed i d ∷ left_over) = subst (IsRoom old) next room in
+      room_released old new left_over (get_or freed i d) (released here) [] uploads readers here
+
+  pub held_next : (k : DiskState) (h : Holding) → IsHeld old k (record h { owned = drop i freed ++ rest }) → IsHeld new k (record h { owned = left_over })
+  held_next k h held =
+      held_released old new left_over (get_or freed i d) (released (subst (IsRoom old) next held.room)) k (record h { owned = drop i freed ++ rest }) next uploads readers held

@@ -9,20 +9,10 @@ use Rattle.b2_base.specs.declared.extent.Extent.{Extent}
 use Rattle.extent_space.specs.Room.{Apart, GivesBack}
 use Rattle.blob_extents.specs.Uses.{Uses, IsInUse, TakesOut}
 use Rattle.blob_extents.proofs.Places.{in_use_still}
+use Rattle.stored_contents.specs.Changes.{Goes, Unpins}
 use Rattle.stored_contents.proofs.Lists.{all_left, apart_from_left, still_there}
 use Rattle.stored_contents.proofs.Counts.{is_there}
 use Rattle.stored_contents.proofs.Rooms.{apart_sym}
-
--- nothing went, or the extent of the pin went, where no other pin is on it
-pub record Goes (e : Extent) (old new : Uses) : Type 0 where
-  pub place : ℕ
-  pub within : place < length old.released
-  pub here : get_or old.released place e ≡ e
-  pub left : new.released ≡ remove old.released place
-  pub last : Contains new.pinned e → ⊥
-
-abbrev pub Unpins : Extent → Uses → Uses → Type 0
-Unpins e old new = ((new.room ≡ old.room) × (new.released ≡ old.released)) ⊎ Goes e old new
 
 pub unpins : (e : Extent) (old new : Uses)
     → (Contains new.pinned e → (new.room ≡ old.room) × (new.released ≡ old.released))

@@ -1,4 +1,5 @@
 pub mod Room
+pub mod Changes
 pub mod Held
 pub mod Reads
 pub mod Sealed

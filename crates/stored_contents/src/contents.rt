@@ -4,8 +4,10 @@ ghost use Rattle.std.specs.Prelude.{◌≡◌, ◌≤◌, ◌^◌, List, [], ◌
 ghost use Rattle.b2_base.specs.declared.extent.Extent.{Extent as Place};
 ghost use Rattle.disk_model.specs.declared.area.DiskImage.{DiskImage};
 ghost use Rattle.blob_extents.specs.Bytes.{read_at};
+ghost use Rattle.blob_extents.specs.Uses.{IsInUse};
 ghost use Rattle.stored_contents.specs.Held.{Holding, IsHeld, none_held};
 ghost use Rattle.stored_contents.specs.Room.{IsRoom};
+ghost use Rattle.stored_contents.specs.Changes.{Releases};
 
 use crate::incoming::Incoming;
 use crate::outgoing::Outgoing;
@@ -51,9 +53,9 @@ impl Contents {
         })
     }
 
-    /// Its owner gives these up. The extent of each goes back at once, or with its last reader.
+    /// Its owner gives these up. The extent of each goes back at once, or with its last reader. One that
+    /// is not in use stays as it is.
     pub fn release<D: Disk>(&mut self, _disk: &D, freed: &[Extent]) -> Result<(), Memory>
-        requires { (rest : List Place) × IsRoom self.old (freed.now ++ rest) }
         ensures room { (rest : List Place) → IsRoom self.old (freed.now ++ rest)
             → OnOk result (IsRoom self.new rest) }
         ensures held { (h : Holding) (rest : List Place) → h.owned ≡ freed.now ++ rest
@@ -61,9 +63,22 @@ impl Contents {
             → OnOk result (IsHeld self.new (D.state _disk.now) (record h { owned = rest })) }
     {
         for extent in freed {
-            let kept = self.blobs.kept(*extent);
-            self.blobs.release(kept)?;
+            self.release_one(*extent)?;
         }
+        Ok(())
+    }
+
+    // One of them. Whether it is in use is asked of the room, so that no caller has to know it.
+    fn release_one(&mut self, extent: Extent) -> Result<(), Memory>
+        ensures releases { IsInUse self.old.blobs extent
+            → OnOk result (Releases extent self.old.blobs self.new.blobs) }
+        ensures incoming { self.new.incoming ≡ self.old.incoming }
+        ensures outgoing { self.new.outgoing ≡ self.old.outgoing }
+    {
+        let Some(kept) = self.blobs.kept(extent) else {
+            return Ok(());
+        };
+        self.blobs.release(kept)?;
         Ok(())
     }
 }

@@ -32,7 +32,6 @@ impl Contents {
         at: u64,
         len: u64,
     ) -> Result<Option<Whole>, Or<StoreFault>>
-        requires { (owned : List Place) × IsRoom self.old owned × All (Contains owned) pieces.now }
         ensures room { (owned : List Place) → IsRoom self.old owned → All (Contains owned) pieces.now
             → IfOk result (λ w. MatchOption w ⊤ (λ w. IsRoom self.new (w.extent ∷ owned))) }
         ensures held { (h : Holding) → IsHeld self.old (D.state disk.old) h

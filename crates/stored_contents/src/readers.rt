@@ -4,6 +4,8 @@ ghost use Rattle.std.specs.Prelude.{◌≡◌, ◌==◌, List, [], None, map, Al
 ghost use Rattle.std.specs.List.{flat_map, position};
 ghost use Rattle.b2_base.specs.declared.extent.Extent.{Extent as Place};
 ghost use Rattle.blob_extents.specs.States.{pin_extent};
+ghost use Rattle.blob_extents.specs.Uses.{IsInUse};
+ghost use Rattle.stored_contents.specs.Changes.{EndsLook};
 ghost use Rattle.stored_contents.specs.Held.{Holding, IsHeld, read_by, with_read};
 ghost use Rattle.stored_contents.specs.Reads.{IsRead, outgoing_at, zeros_of};
 ghost use Rattle.stored_contents.specs.Room.{IsRoom, IsRoomWith};
@@ -27,7 +29,6 @@ impl Contents {
         at: u64,
         len: u64,
     ) -> Result<(), Memory>
-        requires { (owned : List Place) × IsRoom self.old owned × All (Contains owned) pieces.now }
         ensures room { (owned : List Place) → IsRoom self.old owned → All (Contains owned) pieces.now
             → OnOk result (IsRoom self.new owned) }
         ensures held { (h : Holding) → IsHeld self.old (D.state _disk.now) h
@@ -72,7 +73,6 @@ impl Contents {
 
     /// The reader of this number ends, where there is one.
     pub fn end_reading<D: Disk>(&mut self, _disk: &D, c: u64) -> Result<(), Memory>
-        requires { (owned : List Place) × IsRoom self.old owned }
         ensures room { (owned : List Place) → IsRoom self.old owned
             → OnOk result (IsRoom self.new owned) }
         ensures held { (h : Holding) → IsHeld self.old (D.state _disk.now) h
@@ -102,17 +102,19 @@ impl Contents {
 
     // These owned contents are looked at, for a reader that is to come.
     fn pin_all(&mut self, alloc: Global, pieces: &[Extent]) -> Result<Vec<Pin>, Memory>
-        requires { (owned : List Place) × IsRoom self.old owned × All (Contains owned) pieces.now }
         ensures room { (owned : List Place) → IsRoom self.old owned → All (Contains owned) pieces.now
             → IfOk result (λ pins. IsRoomWith self.new owned (map pin_extent pins.items)) }
-        ensures pieces { IfOk result (λ pins. map pin_extent pins.items ≡ pieces.now) }
+        ensures pieces { (owned : List Place) → IsRoom self.old owned → All (Contains owned) pieces.now
+            → IfOk result (λ pins. map pin_extent pins.items ≡ pieces.now) }
         ensures released { self.new.blobs.released ≡ self.old.blobs.released }
         ensures incoming { self.new.incoming.entries ≡ self.old.incoming.entries }
         ensures outgoing { self.new.outgoing.items ≡ self.old.outgoing.items }
     {
         let mut pins = Vec::new(alloc);
         for piece in pieces {
-            let kept = self.blobs.kept(*piece);
+            let Some(kept) = self.blobs.kept(*piece) else {
+                return Ok(pins);
+            };
             pins.push(self.blobs.pin(&kept)?)?;
         }
         Ok(pins)
@@ -120,7 +122,6 @@ impl Contents {
 
     // These looks end, which are no reader's any longer.
     fn unpin_all(&mut self, mut pins: Vec<Pin>) -> Result<(), Memory>
-        requires { (owned : List Place) × IsRoomWith self.old owned (map pin_extent pins.items) }
         ensures room { (owned : List Place) → IsRoomWith self.old owned (map pin_extent pins.items)
             → OnOk result (IsRoom self.new owned) }
         ensures released { OnOk result
@@ -129,8 +130,25 @@ impl Contents {
         ensures outgoing { self.new.outgoing.items ≡ self.old.outgoing.items }
     {
         while let Some(pin) = pins.pop() {
-            self.blobs.unpin(pin)?;
+            self.unpin_one(pin)?;
         }
+        Ok(())
+    }
+
+    // One of them. Whether it is there is asked, so that no caller has to know it.
+    fn unpin_one(&mut self, pin: Pin) -> Result<(), Memory>
+        ensures ends { Contains self.old.blobs.pinned (pin_extent pin)
+            → IsInUse self.old.blobs (pin_extent pin)
+            → OnOk result (EndsLook (pin_extent pin) self.old.blobs self.new.blobs) }
+        ensures released { OnOk result
+            (All (Contains self.old.blobs.released) self.new.blobs.released) }
+        ensures incoming { self.new.incoming ≡ self.old.incoming }
+        ensures outgoing { self.new.outgoing ≡ self.old.outgoing }
+    {
+        if !self.blobs.is_pinned(&pin) {
+            return Ok(());
+        }
+        self.blobs.unpin(pin)?;
         Ok(())
     }
 }

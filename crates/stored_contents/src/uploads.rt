@@ -40,7 +40,6 @@ impl Contents {
         c: u64,
         len: u64,
     ) -> Result<(), Or<AreaEnd>>
-        requires { (owned : List Place) × IsRoom self.old owned }
         ensures full { incoming_at self.old c ≡ None
             → IfFault result (λ _. extent_for (room_of self.old) len ≡ None) }
         ensures room { (owned : List Place) → IsRoom self.old owned
@@ -120,7 +119,6 @@ impl Contents {
 
     /// The upload of this number is lost, where there is one, and its room goes back.
     pub fn lose<D: Disk>(&mut self, _disk: &D, c: u64) -> Result<(), Memory>
-        requires { (owned : List Place) × IsRoom self.old owned }
         ensures room { (owned : List Place) → IsRoom self.old owned
             → OnOk result (IsRoom self.new owned) }
         ensures held { (h : Holding) → IsHeld self.old (D.state _disk.now) h
@@ -134,6 +132,10 @@ impl Contents {
             return Ok(());
         };
         let spent = incoming.staging.spend();
+        // Asked, so that no caller has to know it.
+        if !self.blobs.is_in_use(spent.extent()) {
+            return Ok(());
+        }
         self.blobs.give_up(spent)?;
         Ok(())
     }
