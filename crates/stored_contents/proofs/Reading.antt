@@ -1,8 +1,8 @@
 -- What the room and the holding are while readers come and go.
-use Rattle.std.proofs.Common.{◌≡◌, ◌⊎◌, inl, inr, ℕ, suc, ◌+◌, ◌-◌, ◌<◌, ◌==◌, if◌then◌else◌, Option, Some, None, IfSome, find, List, [], ◌∷◌, ◌++◌, length, get_or, flat_map, map, take, drop, All, AllPairs, Contains, refl, sym, ap, subst, ◌∙◌, arith}
+use Rattle.std.proofs.Common.{◌≡◌, ◌⊎◌, inl, inr, ℕ, suc, ◌+◌, ◌-◌, ◌<◌, ◌==◌, if◌then◌else◌, Option, Some, None, IfSome, find, List, [], ◌∷◌, ◌++◌, length, get_or, flat_map, map, take, drop, Vec, Global, All, AllPairs, Contains, refl, sym, ap, subst, ◌∙◌, arith}
 use Rattle.std.specs.List.{remove}
 use Rattle.std.specs.Map.{lookup}
-use Rattle.std.specs.BTreeMap.{is_at}
+use Rattle.std.specs.BTreeMap.{BTreeMap, is_at}
 use Rattle.std.specs.Ordering.{nat_cmp}
 use Rattle.std.proofs.lemmas.Bool.{cases_eq, eq-eqb, ne_eqb}
 use Rattle.std.specs.Option.{option_to_list}
@@ -34,6 +34,12 @@ same_incoming old new same q = ap (at q) same
   where
     at : ℕ → List (ℕ × Incoming) → Option Incoming
     at q es = lookup (is_at (nat_cmp q)) es
+
+abbrev pub entries_of : BTreeMap ℕ Incoming → List (ℕ × Incoming)
+entries_of m = m.entries
+
+abbrev pub items_of : Vec Outgoing Global → List Outgoing
+items_of v = v.items
 
 -- ---- the room
 
