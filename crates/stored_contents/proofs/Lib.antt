@@ -11,3 +11,4 @@ pub mod Parts
 pub mod Reading
 pub mod Sealing
 pub mod Releasing
+pub mod Ending
