@@ -12,3 +12,4 @@ pub mod Reading
 pub mod Sealing
 pub mod Releasing
 pub mod Ending
+pub mod Starting
