@@ -1,8 +1,8 @@
 -- The readers of a number, one after the other.
-use Rattle.std.proofs.Common.{◌≡◌, ◌⊎◌, inl, inr, ◌==◌, ◌≤◌, ◌<◌, ℕ, Bool, true, false, cond, nat_lt, find, Option, Some, None, List, length, get_or, sym, ap, subst, ◌∙◌}
+use Rattle.std.proofs.Common.{◌≡◌, ◌⊎◌, inl, inr, ◌==◌, ◌≤◌, ◌<◌, ℕ, Bool, true, false, cond, nat_lt, find, slice_get, Option, Some, None, List, length, get_or, sym, ap, subst, ◌∙◌}
 use Rattle.std.specs.List.{position, position_or_len, remove}
 use Rattle.std.proofs.lemmas.Bool.{cases_lt, eqb-true, lt-ltb, ne_eqb}
-use Rattle.std.proofs.lemmas.Option.{none-some, slice_get_past}
+use Rattle.std.proofs.lemmas.Option.{none-some, slice_get_past, slice_get-get_or}
 use Rattle.std.proofs.lemmas.List.Folds.{find_at}
 use Rattle.std.proofs.lemmas.List.Quantifiers.{position-Some}
 use Rattle.stored_contents.specs.declared.outgoing.Outgoing.{Outgoing}
@@ -18,6 +18,17 @@ none_found p xs none = find_at p xs ∙ slice_get_past xs at (past (cases_lt at 
     past : (at < length xs) ⊎ (length xs ≤ at) → length xs ≤ at
     past (inl before) = absurd (none-some at (sym none ∙ ap (λ b. cond b (Some at) None) (lt-ltb at (length xs) before)))
     past (inr behind) = behind
+
+-- the first of a list
+pub first_found : {X : Type 0} (p : X → Bool) (xs : List X) (i : ℕ) (d : X) → position p xs ≡ Some i → find p xs ≡ Some (get_or xs i d)
+first_found p xs i d is =
+    find_at p xs
+    ∙ ap (slice_get xs) (at_place (nat_lt (position_or_len p xs) (length xs)) (position_or_len p xs) i is)
+    ∙ slice_get-get_or xs i d (position-Some p xs i d is).0
+  where
+    at_place : (b : Bool) (n i : ℕ) → cond b (Some n) None ≡ Some i → n ≡ i
+    at_place true n i is = cc
+    at_place false n i is = absurd (cc)
 
 -- the first reader of a number
 module _ (os : List Outgoing) (c i : ℕ) (o : Outgoing) (is : position (λ r. r.reader == c) os ≡ Some i) where

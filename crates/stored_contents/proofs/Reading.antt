@@ -1,6 +1,8 @@
 -- What the room and the holding are while readers come and go.
 use Rattle.std.proofs.Common.{◌≡◌, ◌⊎◌, inl, inr, ℕ, suc, ◌+◌, ◌-◌, ◌<◌, ◌==◌, if◌then◌else◌, Option, Some, None, IfSome, find, List, [], ◌∷◌, ◌++◌, length, get_or, flat_map, map, take, drop, Vec, Global, All, AllPairs, Contains, refl, sym, ap, subst, ◌∙◌, arith}
+use Rattle.std.specs.Prelude.{Result, IfOk}
 use Rattle.std.specs.List.{remove}
+use Rattle.std.proofs.Math.Seq.{take-nil, drop-nil}
 use Rattle.std.specs.Map.{lookup}
 use Rattle.std.specs.BTreeMap.{BTreeMap, is_at}
 use Rattle.std.specs.Ordering.{nat_cmp}
@@ -262,3 +264,16 @@ no_pin before after n o is none rest empty =
 
 pub within_both : (a b c : List Extent) → All (Contains a) b → All (Contains b) c → All (Contains a) c
 within_both a b c first second = λ k e lt. All-contains (Contains a) b _ first (second k e lt)
+
+-- ---- what a reader gets
+
+-- nothing of nothing
+pub nothing_of : (most at : ℕ) (bytes : List ℕ) → bytes ≡ [] → take most (drop at bytes) ≡ []
+nothing_of most at bytes none = ap (λ l. take most (drop at l)) none ∙ ap (take most) (drop-nil at) ∙ take-nil most
+
+module _ {F : Type 0} (these those : List ℕ) (r : Result (Vec ℕ Global) F) (most at : ℕ) (same : these ≡ those) where
+  pub read_as : IfOk r (λ bytes. bytes.items ≡ take most (drop at these)) → IfOk r (λ bytes. bytes.items ≡ take most (drop at those))
+  read_as got = subst (λ l. IfOk r (λ bytes. bytes.items ≡ take most (drop at l))) same got
+
+  pub counted_as : IfOk r (λ bytes. length bytes.items ≡ length (take most (drop at these))) → IfOk r (λ bytes. length bytes.items ≡ length (take most (drop at those)))
+  counted_as got = subst (λ l. IfOk r (λ bytes. length bytes.items ≡ length (take most (drop at l)))) same got

@@ -65,9 +65,10 @@ impl Contents {
         ensures held { (h : Holding) → IsHeld self.now (D.state disk.old) h
             → IsHeld self.now (D.state disk.new) h }
     {
-        let Some(reading) = self.outgoing.iter().find(|reading| reading.reader == c) else {
+        let Some(place) = self.place_of(c) else {
             return Ok(Vec::new(alloc));
         };
+        let reading = &self.outgoing[place];
         reading.bytes(alloc, disk, at, most)
     }
 
