@@ -13,3 +13,4 @@ pub mod Sealing
 pub mod Releasing
 pub mod Ending
 pub mod Starting
+pub mod Copying

@@ -1,7 +1,8 @@
 //! Copies inside the store.
 
-ghost use Rattle.std.specs.Prelude.{◌≡◌, ◌+◌, ◌≤◌, ◌∷◌, List, All, Contains, IfOk, MatchOption, ⊤, length, take, drop};
+ghost use Rattle.std.specs.Prelude.{◌≡◌, ◌+◌, ◌<◌, ◌≤◌, ◌∷◌, nat_eq, ℕ, List, [], Some, All, Contains, IfOk, OnOk, MatchOption, length, min, take, drop};
 ghost use Rattle.std.specs.List.{flat_map};
+ghost use Rattle.std.specs.Map.{update};
 ghost use Rattle.b2_base.specs.declared.extent.Extent.{Extent as Place};
 ghost use Rattle.stored_contents.specs.Held.{Holding, IsHeld};
 ghost use Rattle.stored_contents.specs.Room.{IsRoom};
@@ -10,7 +11,7 @@ ghost use Rattle.stored_contents.specs.Sealed.{IsCopied};
 
 use crate::contents::{Contents, StoreFault};
 use crate::uploads::Whole;
-use b2_base::{Extent, Memory, Or};
+use b2_base::{Extent, Or};
 use disk_model::{Disk, DiskFault};
 use extent_space::AreaEnd;
 use std::alloc::Global;
@@ -33,7 +34,8 @@ impl Contents {
         len: u64,
     ) -> Result<Option<Whole>, Or<StoreFault>>
         ensures room { (owned : List Place) → IsRoom self.old owned → All (Contains owned) pieces.now
-            → IfOk result (λ w. MatchOption w ⊤ (λ w. IsRoom self.new (w.extent ∷ owned))) }
+            → IfOk result
+            (λ w. MatchOption w (IsRoom self.new owned) (λ w. IsRoom self.new (w.extent ∷ owned))) }
         ensures held { (h : Holding) → IsHeld self.old (D.state disk.old) h
             → All (Contains h.owned) pieces.now
             → at + len ≤ length (flat_map h.meaning pieces.now)
@@ -41,31 +43,76 @@ impl Contents {
             (take len (drop at (flat_map h.meaning pieces.now)))) }
     {
         self.start_reading(alloc, disk, COPYING, pieces, at, len)?;
-        if let Err(error) = self.begin(alloc, disk, COPYING, len) {
+        self.copied(alloc, disk, COPYING, len)
+    }
+
+    // What is read under the number is stored, so many bytes, and no longer read.
+    fn copied<D: Disk>(
+        &mut self,
+        alloc: Global,
+        disk: &mut D,
+        c: u64,
+        len: u64,
+    ) -> Result<Option<Whole>, Or<StoreFault>>
+        ensures room { (owned : List Place) → IsRoom self.old owned → IfOk result
+            (λ w. MatchOption w (IsRoom self.new owned) (λ w. IsRoom self.new (w.extent ∷ owned))) }
+        ensures held { (h : Holding) → IsHeld self.old (D.state disk.old) h
+            → length (h.read c) ≡ len
+            → IfOk result (IsCopied self.new (D.state disk.new) h c (h.read c)) }
+    {
+        if let Err(error) = self.begin(alloc, disk, c, len) {
             return Err(no_room(error));
         }
-        if let Err(error) = self.copy_all(alloc, disk, len) {
+        if let Err(error) = self.copy_all(alloc, disk, c, len, MOST_COPIED) {
             return Err(disk_fault(error));
         }
-        self.end_reading(disk, COPYING)?;
-        match self.seal(disk, COPYING) {
+        self.end_reading(disk, c)?;
+        match self.seal(disk, c) {
             Ok(whole) => Ok(whole),
             Err(error) => Err(disk_fault(error)),
         }
     }
 
-    // The bytes of the copy come, up to so many.
-    fn copy_all<D: Disk>(&mut self, alloc: Global, disk: &mut D, len: u64) -> Result<(), Or<DiskFault>> {
-        let mut done = 0;
-        while done < len {
-            let bytes = self.read_out(alloc, disk, COPYING, done, MOST_COPIED)?;
+    // What is read under the number comes under it, at most so many bytes at once.
+    fn copy_all<D: Disk>(
+        &mut self,
+        alloc: Global,
+        disk: &mut D,
+        c: u64,
+        len: u64,
+        most: usize,
+    ) -> Result<(), Or<DiskFault>>
+        requires { 0 < most }
+        ensures room { (owned : List Place) → IsRoom self.old owned
+            → OnOk result (IsRoom self.new owned) }
+        ensures held { (h : Holding) → IsHeld self.old (D.state disk.old) h
+            → length (h.read c) ≡ len
+            → h.came c ≡ Some (record { len = len; bytes = [] })
+            → OnOk result (IsHeld self.new (D.state disk.new) (record h {
+              came = update nat_eq h.came c (Some (record { len = len; bytes = h.read c }));
+            })) }
+    {
+        let mut left = len;
+        while left > 0 {
+            let bytes = self.read_out(alloc, disk, c, len - left, least(left, most))?;
             if bytes.is_empty() {
                 return Ok(());
             }
-            done += bytes.len() as u64;
-            self.piece(disk, COPYING, &bytes)?;
+            left -= bytes.len() as u64;
+            self.piece(disk, c, &bytes)?;
         }
         Ok(())
+    }
+}
+
+// The smaller of two counts.
+fn least(left: u64, most: usize) -> usize
+    ensures { result ≡ min left most }
+{
+    if left < most as u64 {
+        left as usize
+    } else {
+        most
     }
 }
 

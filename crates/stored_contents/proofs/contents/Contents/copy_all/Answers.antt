@@ -1,0 +1,26 @@
+use Rattle.std.proofs.Common.{◌≡◌, ◌≤◌, ◌-◌, ℕ, List, length, drop, min, nat_eq, arith, subst, sym, ap, ◌∙◌, length-take}
+use Rattle.std.specs.Map.{update}
+use Rattle.stored_contents.specs.Held.{IsHeld, read_by, with_bytes}
+use Rattle.stored_contents.specs.Reads.{outgoing_at, zeros_of}
+use Rattle.stored_contents.proofs.Copying.{comes_more, has_come}
+use Rattle.stored_contents.proofs.contents.Contents.copy_all.Goals as goal
+
+pub loop-left-preserved : goal.loop-left-preserved
+loop-left-preserved g c =
+    let bytes = c.in_ok-bytes.bytes.items in
+    let left = c.loop-left.left in
+    let zeros = drop (c.args.len - left) (read_by zeros_of (outgoing_at c.loop-left.self c.args.c)) in
+    let less : length bytes ≤ left = omega (arith, c.in_ok-bytes.ensures.count, c.least.ensures, length-take c.least.result zeros) in
+    let count : c.len.result ≡ length bytes = omega (arith, c.len.ensures, c.deref.ensures.len, ap (λ (l : List ℕ). length l) c.deref.ensures.value) in
+    record {
+      within = omega (arith, c.loop-left.invariant.within);
+      room = λ owned room. c.in_ok-piece.ensures.room owned (c.loop-left.invariant.room owned room);
+      held = λ h held size none.
+          let k = has_come h c.args.c c.args.len (c.args.len - left) in
+          let before = c.loop-left.invariant.held h held size none in
+          let came = c.in_ok-piece.ensures.held k (c.read_out.ensures.held k before) in
+          subst (λ n. IsHeld c.piece.new.self (g.D.Disk.state c.piece.new.disk) (has_come h c.args.c c.args.len (c.args.len - (left - n)))) (sym count)
+          (comes_more c.piece.new.self (g.D.Disk.state c.piece.new.disk) h c.args.c c.args.len left c.least.result bytes
+            c.loop-left.invariant.within less (c.in_ok-bytes.ensures.bytes k before)
+            (subst (λ l. IsHeld c.piece.new.self (g.D.Disk.state c.piece.new.disk) (record k { came = update nat_eq k.came c.args.c (with_bytes l (k.came c.args.c)) })) c.deref.ensures.value came));
+    }
