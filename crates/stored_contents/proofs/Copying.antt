@@ -1,12 +1,16 @@
 -- What is read comes under the same number.
-use Rattle.std.proofs.Common.{◌≡◌, ◌+◌, ◌-◌, ◌≤◌, ◌<◌, ℕ, min, nat_eq, List, [], ◌++◌, length, take, drop, Some, sym, ap, ◌∙◌, subst, arith, length-take, length-drop}
+use Rattle.std.proofs.Common.{◌≡◌, ◌+◌, ◌-◌, ◌≤◌, ◌<◌, ℕ, min, nat_eq, List, [], ◌++◌, length, take, drop, Option, Some, None, refl, sym, ap, ◌∙◌, subst, arith, length-take, length-drop}
 use Rattle.std.specs.Map.{update}
-use Rattle.std.proofs.lemmas.List.{take-take, take_min, take-append-drop, drop-take}
+use Rattle.std.proofs.lemmas.List.{take-take, take_all, take_min, take-append-drop, drop-take}
+use Rattle.sha1.specs.Sha1.{sha1}
 use Rattle.disk_model.specs.State.{DiskState}
 use Rattle.stored_contents.specs.declared.contents.Contents.{Contents}
-use Rattle.stored_contents.specs.Held.{Coming, Holding, IsHeld, with_bytes}
+use Rattle.stored_contents.specs.declared.uploads.Whole.{Whole}
+use Rattle.stored_contents.specs.Held.{Coming, Holding, IsHeld, with_bytes, with_read}
+use Rattle.stored_contents.specs.Sealed.{HasCopied, HasSealed, IsCopied, IsSealed}
 use Rattle.stored_contents.proofs.Updates.{updated_here, updated_twice}
 use Rattle.stored_contents.proofs.Holdings.{held_came}
+use Rattle.stored_contents.proofs.Starting.{held_reads}
 
 take_both : (n m : ℕ) (xs : List ℕ) → take n xs ++ take m (drop n xs) ≡ take (n + m) xs
 take_both n m xs =
@@ -52,3 +56,59 @@ comes_more t d h c len left most bytes within less got held =
 
     same : (q : ℕ) → update nat_eq h.came c (Some after) q ≡ update nat_eq (update nat_eq h.came c (Some before)) c (with_bytes bytes (update nat_eq h.came c (Some before) c)) q
     same q = updated_twice h.came c (Some before) (Some after) q ∙ ap (λ o. update nat_eq (update nat_eq h.came c (Some before)) c o q) (sym joined)
+
+-- ---- the copy is stored
+
+module _ (t : Contents) (e : DiskState) (h : Holding) (c len : ℕ) (size : length (h.read c) ≡ len) where
+  abbrev none_yet : Coming
+  none_yet = record { len = len; bytes = [] }
+
+  abbrev all_of_it : Coming
+  all_of_it = record { len = len; bytes = h.read c }
+
+  abbrev came_all : ℕ → Option Coming
+  came_all = update nat_eq (update nat_eq h.came c (Some none_yet)) c (Some all_of_it)
+
+  abbrev before_seal : Holding
+  before_seal = record h { came = came_all; read = with_read h.read c [] }
+
+  copied_by : (w : Option Whole) → IsSealed t e before_seal c (Some all_of_it) w → IsCopied t e h c (h.read c) w
+  copied_by None short = absurd (omega (arith, short.0, size))
+  copied_by (Some w) sealed = (k, has, held)
+    where
+      s : Holding
+      s = sealed.0
+
+      told : HasSealed before_seal c all_of_it w s
+      told = sealed.1
+
+      k : Holding
+      k = record s { came = update nat_eq h.came c None; read = with_read h.read c [] }
+
+      came_same : (q : ℕ) → update nat_eq h.came c None q ≡ s.came q
+      came_same q =
+          updated_twice h.came c (Some none_yet) None q
+          ∙ updated_twice (update nat_eq h.came c (Some none_yet)) c (Some all_of_it) None q
+          ∙ ap (λ f. f q) (sym told.came)
+
+      held : IsHeld t e k
+      held = held_reads t e (record s { came = update nat_eq h.came c None }) (with_read h.read c []) (λ q. ap (λ f. f q) (sym told.read))
+          (held_came t e s (update nat_eq h.came c None) came_same sealed.2)
+
+      has : HasCopied h c (h.read c) w k
+      has = record {
+        stored = record {
+          owned = told.stored.owned;
+          agrees = told.stored.agrees;
+          content_is = told.stored.content_is ∙ whole;
+          digest = told.stored.digest ∙ ap sha1 whole;
+        };
+        came = refl;
+        read = refl;
+      }
+        where
+          whole : take len (h.read c) ≡ h.read c
+          whole = take_all len (h.read c) (omega (arith, size))
+
+  pub is_copied : (w : Option Whole) → IsSealed t e before_seal c (came_all c) w → IsCopied t e h c (h.read c) w
+  is_copied w sealed = copied_by w (subst (λ o. IsSealed t e before_seal c o w) (updated_here (update nat_eq h.came c (Some none_yet)) c (Some all_of_it)) sealed)
