@@ -1,6 +1,7 @@
 -- What is read comes under the same number.
-use Rattle.std.proofs.Common.{◌≡◌, ◌+◌, ◌-◌, ◌≤◌, ◌<◌, ℕ, min, nat_eq, List, [], ◌++◌, length, take, drop, Option, Some, None, refl, sym, ap, ◌∙◌, subst, arith, length-take, length-drop}
+use Rattle.std.proofs.Common.{◌≡◌, ◌+◌, ◌-◌, ◌≤◌, ◌<◌, ℕ, min, nat_eq, List, [], ◌++◌, length, take, drop, if◌then◌else◌, Option, Some, None, refl, sym, ap, ◌∙◌, subst, arith, length-take, length-drop}
 use Rattle.std.specs.Map.{update}
+use Rattle.std.proofs.lemmas.Bool.{eq-eqb}
 use Rattle.std.proofs.lemmas.List.{take-take, take_all, take_min, take-append-drop, drop-take}
 use Rattle.sha1.specs.Sha1.{sha1}
 use Rattle.disk_model.specs.State.{DiskState}
@@ -10,7 +11,7 @@ use Rattle.stored_contents.specs.Held.{Coming, Holding, IsHeld, with_bytes, with
 use Rattle.stored_contents.specs.Sealed.{HasCopied, HasSealed, IsCopied, IsSealed}
 use Rattle.stored_contents.proofs.Updates.{updated_here, updated_twice}
 use Rattle.stored_contents.proofs.Holdings.{held_came}
-use Rattle.stored_contents.proofs.Starting.{held_reads}
+use Rattle.stored_contents.proofs.Starting.{held_reads, read_twice}
 
 take_both : (n m : ℕ) (xs : List ℕ) → take n xs ++ take m (drop n xs) ≡ take (n + m) xs
 take_both n m xs =
@@ -112,3 +113,39 @@ module _ (t : Contents) (e : DiskState) (h : Holding) (c len : ℕ) (size : leng
 
   pub is_copied : (w : Option Whole) → IsSealed t e before_seal c (came_all c) w → IsCopied t e h c (h.read c) w
   is_copied w sealed = copied_by w (subst (λ o. IsSealed t e before_seal c o w) (updated_here (update nat_eq h.came c (Some none_yet)) c (Some all_of_it)) sealed)
+
+-- the reader of the copy was started for it
+module _ (t : Contents) (e : DiskState) (h : Holding) (c : ℕ) (bytes : List ℕ) where
+  abbrev started : Holding
+  started = record h { read = with_read h.read c bytes }
+
+  pub read_here : started.read c ≡ bytes
+  read_here = ap (λ b. if b then bytes else h.read c) (eq-eqb c c refl)
+
+  pub copied_of : (w : Option Whole) → IsCopied t e started c (started.read c) w → IsCopied t e h c bytes w
+  copied_of None none = none
+  copied_of (Some w) copied = (k, has, held)
+    where
+      s : Holding
+      s = copied.0
+
+      told : HasCopied started c (started.read c) w s
+      told = copied.1
+
+      k : Holding
+      k = record s { read = with_read h.read c [] }
+
+      held : IsHeld t e k
+      held = held_reads t e s (with_read h.read c []) (λ q. read_twice h.read c bytes [] q ∙ ap (λ f. f q) (sym told.read)) copied.2
+
+      has : HasCopied h c bytes w k
+      has = record {
+        stored = record {
+          owned = told.stored.owned;
+          agrees = told.stored.agrees;
+          content_is = told.stored.content_is ∙ read_here;
+          digest = told.stored.digest ∙ ap sha1 read_here;
+        };
+        came = told.came;
+        read = refl;
+      }

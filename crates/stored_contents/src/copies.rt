@@ -43,7 +43,8 @@ impl Contents {
             (take len (drop at (flat_map h.meaning pieces.now)))) }
     {
         self.start_reading(alloc, disk, COPYING, pieces, at, len)?;
-        self.copied(alloc, disk, COPYING, len)
+        let whole = self.copied(alloc, disk, COPYING, len)?;
+        Ok(whole)
     }
 
     // What is read under the number is stored, so many bytes, and no longer read.
