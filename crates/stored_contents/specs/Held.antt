@@ -1,5 +1,5 @@
 -- What the contents of a store are, to those above it.
-use Rattle.std.specs.Prelude.{◌≡◌, ◌==◌, nat_eq, nat_le, ℕ, if◌then◌else◌, Bool, false, List, [], ◌++◌, find, length, take, drop, Option, Some, None, option_map, All, Contains}
+use Rattle.std.specs.Prelude.{◌≡◌, ◌+◌, ◌==◌, nat_eq, nat_le, ℕ, if◌then◌else◌, Bool, false, List, [], ◌++◌, find, length, take, drop, Option, Some, None, option_map, All, Contains}
 use Rattle.std.specs.List.{flat_map}
 use Rattle.b2_base.specs.declared.extent.Extent.{Extent}
 use Rattle.disk_model.specs.declared.area.DiskImage.{DiskImage}
@@ -33,7 +33,16 @@ none_held meaning = record { owned = []; meaning = meaning; came = λ c. None; r
 abbrev pub with_bytes : List ℕ → Option Coming → Option Coming
 with_bytes bytes came = option_map (λ (a : Coming). record a { bytes = a.bytes ++ bytes }) came
 
+-- how many bytes of it came
+abbrev pub came_length : Option Coming → ℕ
+came_length None = 0
+came_length (Some a) = length a.bytes
+
 -- ---- uploads
+
+-- how many bytes came, in the extent and in memory
+abbrev pub came_count : Incoming → ℕ
+came_count i = staging_filled i.staging + length i.rest.items
 
 -- all bytes of the content have come
 abbrev pub is_all : Option Incoming → Bool

@@ -7,7 +7,7 @@ ghost use Rattle.outside_traits.specs.Causes.{Rose};
 ghost use Rattle.disk_model.specs.State.{Changes, ReadsAfter};
 ghost use Rattle.extent_space.specs.Room.{Apart};
 ghost use Rattle.blob_extents.specs.Bytes.{IsSafe, ReadsAt, StaysOutside};
-ghost use Rattle.stored_contents.specs.Held.{Coming, IsIncoming};
+ghost use Rattle.stored_contents.specs.Held.{Coming, IsIncoming, came_count};
 ghost use Rattle.stored_contents.specs.Room.{extent_of};
 
 use b2_base::Or;
@@ -23,6 +23,13 @@ pub(crate) struct Incoming {
 }
 
 impl Incoming {
+    /// How many bytes came.
+    pub(crate) fn count(&self) -> u64
+        ensures { result ≡ came_count self.now }
+    {
+        self.staging.filled() + self.rest.len() as u64
+    }
+
     /// More bytes come. At `Err` the upload is lost, and its extent stays in use.
     pub(crate) fn with_bytes<D: Disk>(
         self,

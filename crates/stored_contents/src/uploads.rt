@@ -7,7 +7,7 @@ ghost use Rattle.b2_base.specs.declared.extent.Extent.{Extent as Place};
 ghost use Rattle.outside_traits.specs.Causes.{Rose};
 ghost use Rattle.disk_model.specs.State.{Rests};
 ghost use Rattle.extent_space.specs.Room.{extent_for};
-ghost use Rattle.stored_contents.specs.Held.{Holding, IsHeld, Spares, is_all, with_bytes};
+ghost use Rattle.stored_contents.specs.Held.{Holding, IsHeld, Spares, came_length, is_all, with_bytes};
 ghost use Rattle.stored_contents.specs.Room.{IsRoom, incoming_at, room_of};
 ghost use Rattle.stored_contents.specs.Sealed.{IsSealed};
 
@@ -138,6 +138,17 @@ impl Contents {
         }
         self.blobs.give_up(spent)?;
         Ok(())
+    }
+
+    /// How many bytes came of the upload of this number: 0 where there is none.
+    pub fn came<D: Disk>(&self, _disk: &D, c: u64) -> u64
+        ensures { (h : Holding) → IsHeld self.now (D.state _disk.now) h
+            → result ≡ came_length (h.came c) }
+    {
+        match self.incoming.get(&c) {
+            Some(incoming) => incoming.count(),
+            None => 0,
+        }
     }
 
     // Whether all bytes of the content have come under this number.
