@@ -1,5 +1,5 @@
 -- The readers of a number, one after the other.
-use Rattle.std.proofs.Common.{◌≡◌, ◌⊎◌, inl, inr, ◌==◌, ◌≤◌, ◌<◌, ℕ, Bool, true, false, cond, nat_lt, find, slice_get, Option, Some, None, List, length, get_or, sym, ap, subst, ◌∙◌}
+use Rattle.std.proofs.Common.{◌≡◌, ◌⊎◌, inl, inr, ◌==◌, ◌≤◌, ◌<◌, ℕ, Bool, true, false, cond, nat_lt, find, slice_get, Some, None, List, length, get_or, sym, ap, ◌∙◌}
 use Rattle.std.specs.List.{position, position_or_len, remove}
 use Rattle.std.proofs.lemmas.Bool.{cases_lt, eqb-true, lt-ltb, ne_eqb}
 use Rattle.std.proofs.lemmas.Option.{none-some, slice_get_past, slice_get-get_or}

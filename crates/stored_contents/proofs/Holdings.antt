@@ -1,5 +1,5 @@
 -- What contents are held after a change of their uploads.
-use Rattle.std.proofs.Common.{◌≡◌, ◌==◌, ℕ, nat_eq, List, [], ◌++◌, find, Option, Result, Ok, Err, All, refl, sym, ap, ◌∙◌, subst}
+use Rattle.std.proofs.Common.{◌≡◌, ◌==◌, ℕ, nat_eq, [], ◌++◌, find, Option, Result, Ok, Err, All, refl, sym, ap, ◌∙◌, subst}
 use Rattle.std.specs.Map.{update}
 use Rattle.std.proofs.Math.Seq.{take-nil, drop-nil}
 use Rattle.b2_base.specs.Failure.{IfFault}

@@ -1,14 +1,14 @@
 -- What stays in a list from which one is taken out, and what is found in it.
-use Rattle.std.proofs.Common.{◌≡◌, ◌⊎◌, inl, inr, ℕ, suc, ◌+◌, ◌-◌, ◌≤◌, ◌<◌, Bool, true, false, if◌then◌else◌, Option, Some, None, find, List, [], ◌∷◌, ◌++◌, length, get_or, take, drop, All, Contains, refl, sym, ap, subst, ◌∙◌, arith, length-take, length-drop}
-use Rattle.std.specs.List.{AllPairs, flat_map, position, remove}
+use Rattle.std.proofs.Common.{◌≡◌, ◌⊎◌, inl, inr, ℕ, suc, ◌+◌, ◌-◌, ◌≤◌, ◌<◌, Bool, true, false, if◌then◌else◌, Option, Some, None, find, List, [], ◌∷◌, ◌++◌, length, get_or, take, drop, All, Contains, refl, sym, ap, subst, ◌∙◌, arith}
+use Rattle.std.specs.List.{AllPairs, flat_map, remove}
 use Rattle.std.specs.Option.{option_or}
 use Rattle.std.proofs.lemmas.Bool.{cases_lt}
-use Rattle.std.proofs.lemmas.Option.{none-some, slice_get_past}
-use Rattle.std.proofs.lemmas.List.{append_assoc, set_split, set-get_or, get_or_default}
+use Rattle.std.proofs.lemmas.Option.{none-some}
+use Rattle.std.proofs.lemmas.List.{set_split, set-get_or, get_or_default}
 use Rattle.std.proofs.lemmas.List.Concat.{flat_map-append}
 use Rattle.std.proofs.lemmas.List.Edits.{length-remove, get_or-remove_below, get_or-remove_above}
 use Rattle.std.proofs.lemmas.List.Elements.{All-append, All-take, All-drop, All-from_get_or, Contains-append_left, Contains-append_right}
-use Rattle.std.proofs.lemmas.List.Folds.{find-append, find_at}
+use Rattle.std.proofs.lemmas.List.Folds.{find-append}
 
 -- the list around one of its places
 pub around : {X : Type 0} (xs : List X) (i : ℕ) (d : X) → i < length xs → xs ≡ take i xs ++ get_or xs i d ∷ drop (suc i) xs

@@ -1,5 +1,5 @@
 -- A disk that is only read.
-use Rattle.std.proofs.Common.{◌≡◌, ◌<◌, ℕ, List, length, get_or, map, All, sym, ap, subst, ◌∙◌, arith}
+use Rattle.std.proofs.Common.{◌≡◌, ◌<◌, ℕ, List, length, get_or, map, All, sym, ap, subst, ◌∙◌}
 use Rattle.std.proofs.lemmas.List.{get_or-map, length-map}
 use Rattle.b2_base.specs.declared.extent.Extent.{Extent}
 use Rattle.disk_model.specs.declared.area.DiskImage.{DiskImage}

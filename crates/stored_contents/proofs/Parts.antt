@@ -35,31 +35,31 @@ module _ (meaning : Extent → List ℕ) (pins : List Pin) (i : ℕ) (pin : Pin)
     (long : length (meaning (pin_extent pin)) ≡ (pin_extent pin).len)
     (count : n ≡ min ((pin_extent pin).len - skip) left)
     (next : after ≡ skip - (pin_extent pin).len)
-    where
-  this_part : take left (drop skip (whole meaning (drop i pins))) ≡ take n (drop skip (meaning (pin_extent pin))) ++ take (left - n) (drop after (whole meaning (drop (i + 1) pins)))
-  this_part =
-      ap (λ l. take left (drop skip (whole meaning l))) (drop_more pins i pin within ∙ ap (λ p. p ∷ drop (i + 1) pins) (sym here))
-      ∙ two_parts (meaning (pin_extent pin)) (whole meaning (drop (i + 1) pins)) skip left n (omega (arith, count, long))
-      ∙ ap (λ k. take n (drop skip (meaning (pin_extent pin))) ++ take (left - n) (drop k (whole meaning (drop (i + 1) pins)))) (ap (λ k. skip - k) long ∙ sym next)
+  where
+    this_part : take left (drop skip (whole meaning (drop i pins))) ≡ take n (drop skip (meaning (pin_extent pin))) ++ take (left - n) (drop after (whole meaning (drop (i + 1) pins)))
+    this_part =
+        ap (λ l. take left (drop skip (whole meaning l))) (drop_more pins i pin within ∙ ap (λ p. p ∷ drop (i + 1) pins) (sym here))
+        ∙ two_parts (meaning (pin_extent pin)) (whole meaning (drop (i + 1) pins)) skip left n (omega (arith, count, long))
+        ∙ ap (λ k. take n (drop skip (meaning (pin_extent pin))) ++ take (left - n) (drop k (whole meaning (drop (i + 1) pins)))) (ap (λ k. skip - k) long ∙ sym next)
 
-  pub part_read : (bytes more all : List ℕ) → more ≡ bytes ++ take n (drop skip (meaning (pin_extent pin)))
-      → bytes ++ take left (drop skip (whole meaning (drop i pins))) ≡ all
-      → more ++ take (left - n) (drop after (whole meaning (drop (i + 1) pins))) ≡ all
-  part_read bytes more all is so_far =
-      ap (λ l. l ++ take (left - n) (drop after (whole meaning (drop (i + 1) pins)))) is
-      ∙ append_assoc bytes (take n (drop skip (meaning (pin_extent pin)))) (take (left - n) (drop after (whole meaning (drop (i + 1) pins))))
-      ∙ ap (λ l. bytes ++ l) (sym this_part)
-      ∙ so_far
+    pub part_read : (bytes more all : List ℕ) → more ≡ bytes ++ take n (drop skip (meaning (pin_extent pin)))
+        → bytes ++ take left (drop skip (whole meaning (drop i pins))) ≡ all
+        → more ++ take (left - n) (drop after (whole meaning (drop (i + 1) pins))) ≡ all
+    part_read bytes more all is so_far =
+        ap (λ l. l ++ take (left - n) (drop after (whole meaning (drop (i + 1) pins)))) is
+        ∙ append_assoc bytes (take n (drop skip (meaning (pin_extent pin)))) (take (left - n) (drop after (whole meaning (drop (i + 1) pins))))
+        ∙ ap (λ l. bytes ++ l) (sym this_part)
+        ∙ so_far
 
-  pub part_counted : (bytes more all : ℕ) → more ≡ bytes + n
-      → bytes + length (take left (drop skip (whole meaning (drop i pins)))) ≡ all
-      → more + length (take (left - n) (drop after (whole meaning (drop (i + 1) pins)))) ≡ all
-  part_counted bytes more all is so_far =
-      let x = drop skip (meaning (pin_extent pin)) in
-      let y = take (left - n) (drop after (whole meaning (drop (i + 1) pins))) in
-      let both : length (take left (drop skip (whole meaning (drop i pins)))) ≡ length (take n x) + length y = ap length this_part ∙ length-append (take n x) y in
-      let first : length (take n x) ≡ n = omega (arith, length-take n x, length-drop skip (meaning (pin_extent pin)), count, long) in
-      omega (arith, both, first, is, so_far)
+    pub part_counted : (bytes more all : ℕ) → more ≡ bytes + n
+        → bytes + length (take left (drop skip (whole meaning (drop i pins)))) ≡ all
+        → more + length (take (left - n) (drop after (whole meaning (drop (i + 1) pins)))) ≡ all
+    part_counted bytes more all is so_far =
+        let x = drop skip (meaning (pin_extent pin)) in
+        let y = take (left - n) (drop after (whole meaning (drop (i + 1) pins))) in
+        let both : length (take left (drop skip (whole meaning (drop i pins)))) ≡ length (take n x) + length y = ap length this_part ∙ length-append (take n x) y in
+        let first : length (take n x) ≡ n = omega (arith, length-take n x, length-drop skip (meaning (pin_extent pin)), count, long) in
+        omega (arith, both, first, is, so_far)
 
 pub zeros_long : (e : Extent) → length (zeros_of e) ≡ e.len
 zeros_long e = length-replicate {A = ℕ} e.len 0
@@ -94,7 +94,7 @@ all_counted meaning pins i skip left from len at most first most_left bytes past
     let same : most_left ≡ min most (len - at) = omega (arith, wanted) in
     let none : length (take left (drop skip (whole meaning (drop i pins)))) ≡ 0 = ap length (nothing_left meaning pins i skip left past) in
     let all : length (take most_left (drop first (whole meaning pins))) ≡ length (take most (drop at (take len (drop from (whole meaning pins))))) =
-        ap (λ k. length (take k (drop first (whole meaning pins)))) same
-        ∙ ap (λ k. length (take (min most (len - at)) (drop k (whole meaning pins)))) starts
-        ∙ ap length (sym (part_of_part (whole meaning pins) from len at most)) in
+    ap (λ k. length (take k (drop first (whole meaning pins)))) same
+    ∙ ap (λ k. length (take (min most (len - at)) (drop k (whole meaning pins)))) starts
+    ∙ ap length (sym (part_of_part (whole meaning pins) from len at most)) in
     omega (arith, none, all, so_far)

@@ -1,5 +1,5 @@
 -- What the room and the holding are while readers come and go.
-use Rattle.std.proofs.Common.{◌≡◌, ◌⊎◌, inl, inr, ℕ, suc, ◌+◌, ◌-◌, ◌<◌, ◌==◌, if◌then◌else◌, Option, Some, None, IfSome, find, List, [], ◌∷◌, ◌++◌, length, get_or, flat_map, map, take, drop, Vec, Global, All, AllPairs, Contains, refl, sym, ap, subst, ◌∙◌, arith}
+use Rattle.std.proofs.Common.{◌≡◌, ◌⊎◌, inl, inr, ℕ, ◌+◌, ◌-◌, ◌<◌, ◌==◌, if◌then◌else◌, Option, Some, None, IfSome, List, [], ◌∷◌, ◌++◌, length, get_or, flat_map, map, take, drop, Vec, Global, All, AllPairs, Contains, refl, sym, ap, subst, ◌∙◌, arith}
 use Rattle.std.specs.Prelude.{Result, IfOk}
 use Rattle.std.specs.List.{remove}
 use Rattle.std.proofs.Math.Seq.{take-nil, drop-nil}
@@ -13,8 +13,8 @@ use Rattle.std.proofs.lemmas.List.Concat.{flat_map-append}
 use Rattle.std.proofs.lemmas.List.Elements.{All-append, All-contains, All-contains_itself, All-push, All-weaker, Contains-append_left, Contains-append_right, Contains-get_or}
 use Rattle.b2_base.specs.declared.extent.Extent.{Extent}
 use Rattle.disk_model.specs.State.{DiskState}
-use Rattle.extent_space.specs.Room.{Apart, Room}
-use Rattle.blob_extents.specs.Bytes.{IsSafe, ReadsAt}
+use Rattle.extent_space.specs.Room.{Apart}
+use Rattle.blob_extents.specs.Bytes.{IsSafe}
 use Rattle.blob_extents.specs.declared.states.Pin.{Pin}
 use Rattle.blob_extents.specs.States.{pin_extent}
 use Rattle.blob_extents.specs.Uses.{Uses, IsInUse, TakesOut}
@@ -22,14 +22,14 @@ use Rattle.blob_extents.proofs.Places.{in_use_still}
 use Rattle.stored_contents.specs.declared.contents.Contents.{Contents}
 use Rattle.stored_contents.specs.declared.incoming.Incoming.{Incoming}
 use Rattle.stored_contents.specs.declared.outgoing.Outgoing.{Outgoing}
-use Rattle.stored_contents.specs.Held.{Coming, Holding, IsHeld, IsIncoming, IsComing, bytes_of, read_by, with_read}
+use Rattle.stored_contents.specs.Held.{Coming, Holding, IsHeld, IsComing, read_by, with_read}
 use Rattle.stored_contents.specs.Reads.{IsRead, outgoing_at}
 use Rattle.stored_contents.specs.Room.{IsRoom, IsRoomWith, IsStaged, AreApart, extent_of, incoming_at, live, pins_of, times}
 use Rattle.stored_contents.proofs.Counts.{times_both, times_around, times_pieces, some_there, there_some}
 use Rattle.stored_contents.proofs.Lists.{in_pieces, found_there}
 use Rattle.stored_contents.proofs.OnlyRead.{safe_still}
 use Rattle.stored_contents.specs.Changes.{Unpins}
-use Rattle.stored_contents.proofs.Unpins.{still_whole, in_use_after, apart_after, all_after, other_after, pinned_after}
+use Rattle.stored_contents.proofs.Unpins.{in_use_after, apart_after, all_after, other_after, pinned_after}
 
 pub same_incoming : (old new : Contents) → new.incoming.entries ≡ old.incoming.entries → (q : ℕ) → incoming_at new q ≡ incoming_at old q
 same_incoming old new same q = ap (at q) same
@@ -92,9 +92,9 @@ room_unpinned old new owned before after e unpins out others same read loose roo
     counted x =
         let pieces = flat_map pins_of old.outgoing.items in
         let one : times x old.blobs.pinned ≡ times x (e ∷ []) + times x new.blobs.pinned =
-            times_around x old.blobs.pinned out.0 e out.1
-            ∙ ap (λ y. times x (y ∷ []) + times x (remove old.blobs.pinned out.0)) out.2
-            ∙ ap (λ l. times x (e ∷ []) + times x l) (sym out.3) in
+        times_around x old.blobs.pinned out.0 e out.1
+        ∙ ap (λ y. times x (y ∷ []) + times x (remove old.blobs.pinned out.0)) out.2
+        ∙ ap (λ l. times x (e ∷ []) + times x l) (sym out.3) in
         let all : times x old.blobs.pinned ≡ times x before + times x pieces = room.pins x ∙ times_both x before pieces in
         let split : times x before ≡ times x after + times x (e ∷ []) = ap (times x) loose ∙ times_both x after (e ∷ []) in
         let left : times x new.blobs.pinned ≡ times x after + times x pieces = omega (arith, one, all, split) in
@@ -168,7 +168,7 @@ room_read old new owned loose o is same_blobs same more room =
         let all : times x old.blobs.pinned ≡ times x (pins_of o) + times x pieces = room.pins x ∙ ap (λ l. times x (l ++ pieces)) is ∙ times_both x (pins_of o) pieces in
         let last : times x (flat_map pins_of (o ∷ [])) ≡ times x (pins_of o) = ap (times x) (append-nil (pins_of o)) in
         let both : times x (flat_map pins_of (old.outgoing.items ++ o ∷ [])) ≡ times x pieces + times x (flat_map pins_of (o ∷ [])) =
-            ap (times x) (flat_map-append pins_of old.outgoing.items (o ∷ [])) ∙ times_both x pieces (flat_map pins_of (o ∷ [])) in
+        ap (times x) (flat_map-append pins_of old.outgoing.items (o ∷ [])) ∙ times_both x pieces (flat_map pins_of (o ∷ [])) in
         let now : times x old.blobs.pinned ≡ times x (flat_map pins_of (old.outgoing.items ++ o ∷ [])) = omega (arith, all, last, both) in
         ap (λ (u : Uses). times x u.pinned) same_blobs ∙ now ∙ ap (λ l. times x (flat_map pins_of l)) (sym more)
 

@@ -1,5 +1,5 @@
 -- What the rooms of contents are after each change.
-use Rattle.std.proofs.Common.{◌≡◌, ◌⊎◌, inl, inr, ℕ, List, [], ◌∷◌, ◌++◌, get_or, flat_map, Option, Some, None, IfSome, All, AllPairs, Contains, refl, sym, ap, ◌∙◌, subst}
+use Rattle.std.proofs.Common.{◌≡◌, inl, inr, ℕ, List, [], ◌∷◌, ◌++◌, get_or, flat_map, Option, Some, None, IfSome, All, AllPairs, Contains, refl, sym, ap, ◌∙◌, subst}
 use Rattle.std.proofs.lemmas.List.Elements.{All-cons, All-weaker, Contains-append_right}
 use Rattle.std.proofs.lemmas.List.Kept.{AllPairs-cons}
 use Rattle.b2_base.specs.declared.extent.Extent.{Extent}
@@ -62,10 +62,9 @@ module _ (old new : Contents) (owned loose : List Extent) (c : ℕ) (w : Option 
       pair a b differ = each_upload old new c w (λ q o. (q ≡ b → ⊥) → AreApart o (incoming_at new b)) only.set
           (λ other. each_upload old new c w (λ q o. (c ≡ q → ⊥) → AreApart w o) only.set (λ same. absurd (same refl)) (λ q apart not. here_apart q apart) b other)
           (λ p from other. each_upload old new c w (λ q o. (p ≡ q → ⊥) → AreApart (incoming_at old p) o) only.set
-              (λ not. are_apart_sym w (incoming_at old p) (here_apart p from))
-              (λ q apart not. room.staged_apart p q not) b other)
+          (λ not. are_apart_sym w (incoming_at old p) (here_apart p from))
+          (λ q apart not. room.staged_apart p q not) b other)
           a differ
-
 
 -- an upload goes, and the room stays as it is
 module _ (old new : Contents) (owned loose : List Extent) (c : ℕ) where

@@ -4,13 +4,13 @@ use Rattle.std.specs.List.{flat_map}
 use Rattle.std.specs.Map.{update}
 use Rattle.std.proofs.lemmas.Bool.{leb-true}
 use Rattle.std.proofs.lemmas.List.{nil_from_length}
-use Rattle.std.proofs.lemmas.List.Elements.{All-cons, All-head, All-tail, All-nil, All-contains, All-contains_itself, Contains-append_left, Contains-append_right}
+use Rattle.std.proofs.lemmas.List.Elements.{All-cons, All-head, All-tail, All-contains, All-contains_itself, Contains-append_left, Contains-append_right}
 use Rattle.sha1.specs.Sha1.{sha1}
 use Rattle.b2_base.specs.declared.extent.Extent.{Extent}
 use Rattle.disk_model.specs.State.{DiskState, Rests}
 use Rattle.extent_space.specs.Room.{Apart}
 use Rattle.blob_extents.specs.Bytes.{IsSafe, ReadsAt}
-use Rattle.blob_extents.specs.States.{HasHashed, staging_filled}
+use Rattle.blob_extents.specs.States.{HasHashed}
 use Rattle.blob_extents.proofs.WhatIsRead.{safe_rests}
 use Rattle.stored_contents.specs.declared.contents.Contents.{Contents}
 use Rattle.stored_contents.specs.declared.incoming.Incoming.{Incoming}
@@ -18,7 +18,7 @@ use Rattle.stored_contents.specs.declared.outgoing.Outgoing.{Outgoing}
 use Rattle.stored_contents.specs.declared.uploads.Whole.{Whole}
 use Rattle.stored_contents.specs.Held.{Coming, Holding, IsHeld, IsComing, IsIncoming, is_all, read_by}
 use Rattle.stored_contents.specs.Room.{IsRoom, IsRoomWith, extent_of, incoming_at, live, pins_of}
-use Rattle.stored_contents.specs.Sealed.{HasSealed, HasStored, IsSealed}
+use Rattle.stored_contents.specs.Sealed.{HasSealed, IsSealed}
 use Rattle.stored_contents.proofs.Updates.{each_upload, updated_here, updated_other}
 use Rattle.stored_contents.proofs.Rooms.{OnlyUpload, staged_at}
 use Rattle.stored_contents.proofs.Counts.{same, itself, no_other, there_some, some_there}

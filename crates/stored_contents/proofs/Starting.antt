@@ -1,5 +1,5 @@
 -- A reader starts where none of its number is.
-use Rattle.std.proofs.Common.{◌≡◌, ◌==◌, ℕ, nat_eq, Bool, true, false, if◌then◌else◌, find, Some, None, List, [], ◌∷◌, ◌++◌, flat_map, take, drop, All, Contains, refl, sym, ap, subst, ◌∙◌}
+use Rattle.std.proofs.Common.{◌≡◌, ◌==◌, ℕ, nat_eq, Bool, true, false, if◌then◌else◌, find, None, List, [], ◌∷◌, ◌++◌, flat_map, take, drop, All, Contains, refl, sym, ap, subst, ◌∙◌}
 use Rattle.std.proofs.lemmas.Bool.{eq-eqb, ne_eqb}
 use Rattle.std.proofs.lemmas.List.Elements.{All-contains_itself}
 use Rattle.b2_base.specs.declared.extent.Extent.{Extent}
@@ -40,7 +40,7 @@ pub held_started : (t new : Contents) (d : DiskState) (h : Holding) (c : ℕ) (o
 held_started t new d h c o pieces held none room released incoming more reader pins =
     held_reads new d (record h { read = with_read (with_read h.read c []) c bytes }) (with_read h.read c bytes) (read_twice h.read c [] bytes)
     (held_read t new d (record h { read = with_read h.read c [] }) c bytes held room
-      (subst (All (Contains t.blobs.released)) (sym released) (All-contains_itself t.blobs.released)) incoming others (sym here))
+    (subst (All (Contains t.blobs.released)) (sym released) (All-contains_itself t.blobs.released)) incoming others (sym here))
   where
     bytes : List ℕ
     bytes = take o.len (drop o.at (flat_map h.meaning pieces))

@@ -1,9 +1,9 @@
 -- What stands in the area after a pin ends.
-use Rattle.std.proofs.Common.{◌≡◌, ◌⊎◌, inl, inr, ℕ, ◌+◌, ◌-◌, ◌≤◌, ◌<◌, List, [], ◌∷◌, ◌++◌, length, get_or, All, Contains, refl, sym, ap, subst, ◌∙◌, arith, length-append}
+use Rattle.std.proofs.Common.{◌≡◌, ◌⊎◌, inl, inr, ◌+◌, ◌-◌, ◌<◌, List, ◌++◌, length, get_or, All, Contains, refl, sym, ap, subst, ◌∙◌, arith, length-append}
 use Rattle.std.specs.List.{AllPairs, remove}
-use Rattle.std.proofs.lemmas.List.{get_or-append-add, get_or_default}
+use Rattle.std.proofs.lemmas.List.{get_or-append-add}
 use Rattle.std.proofs.lemmas.List.Edits.{remove-append_right}
-use Rattle.std.proofs.lemmas.List.Elements.{All-contains, All-contains_itself, Contains-append_right, Contains-get_or}
+use Rattle.std.proofs.lemmas.List.Elements.{All-contains_itself, Contains-get_or}
 use Rattle.std.proofs.lemmas.List.Quantifiers.{all_pairs_remove}
 use Rattle.b2_base.specs.declared.extent.Extent.{Extent}
 use Rattle.extent_space.specs.Room.{Apart, GivesBack}
@@ -97,5 +97,5 @@ pinned_after owned e old new unpins out pinned = by unpins
     by (inr goes) = λ k d lt.
         subst (λ l. Contains l (get_or new.pinned k d)) (sym (whole_left owned e old new goes))
         (still_there (owned ++ old.released) (length owned + goes.place) e (get_or new.pinned k d) (whole_within owned e old new goes) (whole_here owned e old new goes)
-          (λ is. goes.last (subst (Contains new.pinned) (sym is) (Contains-get_or new.pinned k d lt)))
-          (left k d lt))
+        (λ is. goes.last (subst (Contains new.pinned) (sym is) (Contains-get_or new.pinned k d lt)))
+        (left k d lt))

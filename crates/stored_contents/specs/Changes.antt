@@ -1,5 +1,5 @@
 -- What becomes of the room where an extent is given up, and where a look at one ends.
-use Rattle.std.specs.Prelude.{◌≡◌, ◌⊎◌, ◌<◌, ℕ, List, [], ◌∷◌, ◌++◌, length, Contains}
+use Rattle.std.specs.Prelude.{◌≡◌, ◌⊎◌, ◌<◌, ℕ, [], ◌∷◌, ◌++◌, length, Contains}
 use Rattle.std.proofs.Common.{get_or}
 use Rattle.std.specs.List.{remove}
 use Rattle.b2_base.specs.declared.extent.Extent.{Extent}

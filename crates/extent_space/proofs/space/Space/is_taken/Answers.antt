@@ -1,6 +1,4 @@
-use Rattle.std.proofs.Common.{◌≡◌, ◌+◌, ◌<◌, ap, arith}
-use Rattle.std.specs.Bool.{OnTrue, OnFalse}
-use Rattle.extent_space.specs.Room.{IsTaken, IsWhole}
+use Rattle.std.proofs.Common.{ap, arith}
 use Rattle.extent_space.proofs.InUse.{never_taken, not_taken, taken_by}
 use Rattle.extent_space.proofs.space.Space.is_taken.Goals as goal
 

@@ -6,7 +6,7 @@ use Rattle.extent_space.specs.Room.{extent_for}
 use Rattle.blob_extents.specs.Uses.{Uses}
 use Rattle.stored_contents.specs.declared.contents.Contents.{Contents}
 use Rattle.stored_contents.specs.declared.incoming.Incoming.{Incoming}
-use Rattle.stored_contents.specs.Held.{Holding, IsHeld}
+use Rattle.stored_contents.specs.Held.{IsHeld}
 use Rattle.stored_contents.specs.Room.{IsRoom}
 use Rattle.stored_contents.proofs.Updates.{set_by_map, updated_twice}
 use Rattle.stored_contents.proofs.Rooms.{OnlyUpload, room_begun}

@@ -1,5 +1,4 @@
-use Rattle.std.proofs.Common.{◌≡◌, nat_eq, [], Some}
-use Rattle.std.specs.Map.{update}
+use Rattle.std.proofs.Common.{[], Some}
 use Rattle.stored_contents.proofs.Copying.{is_copied}
 use Rattle.stored_contents.proofs.Updates.{updated_here}
 use Rattle.stored_contents.proofs.contents.Contents.copied.Goals as goal

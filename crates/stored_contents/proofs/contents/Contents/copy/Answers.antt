@@ -1,5 +1,5 @@
-use Rattle.std.proofs.Common.{◌≡◌, ◌+◌, ◌≤◌, ℕ, List, length, take, drop, flat_map, ap, ◌∙◌, arith, length-take, length-drop}
-use Rattle.stored_contents.specs.Held.{Holding, with_read}
+use Rattle.std.proofs.Common.{◌≡◌, ℕ, List, length, take, drop, flat_map, ap, ◌∙◌, arith, length-take, length-drop}
+use Rattle.stored_contents.specs.Held.{with_read}
 use Rattle.stored_contents.specs.declared.copies.TheConstants.{COPYING}
 use Rattle.stored_contents.proofs.Copying.{copied_of, read_here}
 use Rattle.stored_contents.proofs.contents.Contents.copy.Goals as goal
@@ -15,4 +15,4 @@ returns-clause-held g c h held pieces enough =
     let reads = c.in_ok-start_reading.ensures.held h held pieces in
     copied_of c.copied.new.self (g.D.Disk.state c.copied.new.disk) h COPYING bytes c.in_ok-whole.whole
     (c.in_ok-whole.ensures.held (record h { read = with_read h.read COPYING bytes }) reads
-      (ap (λ (l : List ℕ). length l) (read_here c.copied.new.self (g.D.Disk.state c.copied.new.disk) h COPYING bytes) ∙ long))
+    (ap (λ (l : List ℕ). length l) (read_here c.copied.new.self (g.D.Disk.state c.copied.new.disk) h COPYING bytes) ∙ long))

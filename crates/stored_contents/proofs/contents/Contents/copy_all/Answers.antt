@@ -1,4 +1,4 @@
-use Rattle.std.proofs.Common.{◌≡◌, ◌≤◌, ◌-◌, ℕ, List, length, drop, min, nat_eq, arith, subst, sym, ap, ◌∙◌, length-take}
+use Rattle.std.proofs.Common.{◌≡◌, ◌≤◌, ◌-◌, ℕ, List, length, drop, nat_eq, arith, subst, sym, ap, length-take}
 use Rattle.std.specs.Map.{update}
 use Rattle.stored_contents.specs.Held.{IsHeld, read_by, with_bytes}
 use Rattle.stored_contents.specs.Reads.{outgoing_at, zeros_of}
@@ -21,6 +21,6 @@ loop-left-preserved g c =
           let came = c.in_ok-piece.ensures.held k (c.read_out.ensures.held k before) in
           subst (λ n. IsHeld c.piece.new.self (g.D.Disk.state c.piece.new.disk) (has_come h c.args.c c.args.len (c.args.len - (left - n)))) (sym count)
           (comes_more c.piece.new.self (g.D.Disk.state c.piece.new.disk) h c.args.c c.args.len left c.least.result bytes
-            c.loop-left.invariant.within less (c.in_ok-bytes.ensures.bytes k before)
-            (subst (λ l. IsHeld c.piece.new.self (g.D.Disk.state c.piece.new.disk) (record k { came = update nat_eq k.came c.args.c (with_bytes l (k.came c.args.c)) })) c.deref.ensures.value came));
+          c.loop-left.invariant.within less (c.in_ok-bytes.ensures.bytes k before)
+          (subst (λ l. IsHeld c.piece.new.self (g.D.Disk.state c.piece.new.disk) (record k { came = update nat_eq k.came c.args.c (with_bytes l (k.came c.args.c)) })) c.deref.ensures.value came));
     }

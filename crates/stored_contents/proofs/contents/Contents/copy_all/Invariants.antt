@@ -1,4 +1,4 @@
-use Rattle.std.proofs.Common.{◌≡◌, ◌≤◌, ◌-◌, ℕ, nat_eq, List, [], Some, length, take}
+use Rattle.std.proofs.Common.{◌≡◌, ◌≤◌, ◌-◌, nat_eq, List, [], Some, length, take}
 use Rattle.std.specs.Map.{update}
 use Rattle.b2_base.specs.declared.extent.Extent.{Extent}
 use Rattle.stored_contents.specs.Held.{Holding, IsHeld}

@@ -1,8 +1,7 @@
-use Rattle.std.proofs.Common.{◌≡◌, ◌==◌, ◌++◌, ℕ, [], None, refl, sym, ap, ◌∙◌, subst, arith, find}
+use Rattle.std.proofs.Common.{◌==◌, [], refl, sym, ap, ◌∙◌, find}
 use Rattle.std.proofs.lemmas.List.Elements.{All-contains_itself}
 use Rattle.stored_contents.specs.declared.contents.Contents.{Contents}
 use Rattle.stored_contents.specs.Held.{read_by}
-use Rattle.stored_contents.specs.Reads.{outgoing_at}
 use Rattle.stored_contents.proofs.Ending.{none_found, others_left, place_within}
 use Rattle.stored_contents.proofs.Reading.{held_read, room_unread, within_both}
 use Rattle.stored_contents.proofs.contents.Contents.end_reading.Goals as goal
@@ -21,7 +20,7 @@ loop-place-preserved g c =
       room = λ owned room.
           c.in_ok-unpin_all.ensures.room owned
           (room_unread old mid owned c.in-Some.place o (place_within os c.args.c c.in-Some.place o place) c.remove-pins.ensures.value refl refl c.remove-pins.ensures.items
-            (c.loop-place.invariant.room owned room));
+          (c.loop-place.invariant.room owned room));
       released = within_both c.args.self.now.blobs.released old.blobs.released c.unpin_all.new.self.blobs.released c.loop-place.invariant.released c.in_ok-unpin_all.ensures.released;
       incoming = c.unpin_all.ensures.incoming ∙ c.loop-place.invariant.incoming;
       others = λ q not.

@@ -1,7 +1,6 @@
 use Rattle.std.proofs.Common.{[], None, ◌∙◌, refl, sym, subst}
 use Rattle.extent_space.specs.Room.{Apart}
 use Rattle.stored_contents.specs.declared.contents.Contents.{Contents}
-
 use Rattle.stored_contents.proofs.Updates.{set_by_map}
 use Rattle.stored_contents.proofs.Rooms.{OnlyUpload, room_lost, room_none}
 use Rattle.stored_contents.proofs.Holdings.{held_still}

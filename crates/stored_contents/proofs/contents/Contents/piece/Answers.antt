@@ -1,6 +1,6 @@
-use Rattle.std.proofs.Common.{[], None, Some, ◌∙◌, refl, sym, subst}
+use Rattle.std.proofs.Common.{[], None, Some, ◌∙◌, refl, sym}
 use Rattle.stored_contents.specs.declared.contents.Contents.{Contents}
-use Rattle.stored_contents.specs.Held.{IsHeld, with_bytes}
+use Rattle.stored_contents.specs.Held.{with_bytes}
 use Rattle.stored_contents.proofs.Updates.{set_by_map, set_twice}
 use Rattle.stored_contents.proofs.Rooms.{OnlyUpload, room_none, room_came}
 use Rattle.stored_contents.proofs.Holdings.{held_still}

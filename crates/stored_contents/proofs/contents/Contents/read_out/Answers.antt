@@ -1,9 +1,5 @@
-use Rattle.std.proofs.Common.{◌≡◌, ◌==◌, ◌∙◌, ◌++◌, ℕ, List, [], Vec, Global, Some, None, get_or, length, take, drop, sym, ap, subst}
-use Rattle.std.proofs.Math.Seq.{take-nil, drop-nil}
-use Rattle.b2_base.specs.declared.failure.Or.{Or}
-use Rattle.stored_contents.specs.declared.contents.Contents.{Contents}
-use Rattle.stored_contents.specs.declared.outgoing.Outgoing.{Outgoing}
-use Rattle.stored_contents.specs.Held.{Holding, bytes_of, read_by}
+use Rattle.std.proofs.Common.{◌≡◌, ◌==◌, ◌∙◌, Some, get_or, length, sym, ap}
+use Rattle.stored_contents.specs.Held.{bytes_of, read_by}
 use Rattle.stored_contents.specs.Reads.{outgoing_at, zeros_of}
 use Rattle.stored_contents.proofs.Ending.{first_found, none_found}
 use Rattle.stored_contents.proofs.Reading.{counted_as, nothing_of, read_as, read_safe}

@@ -1,7 +1,7 @@
-use Rattle.std.proofs.Common.{◌≡◌, ◌++◌, List, drop, subst}
+use Rattle.std.proofs.Common.{◌++◌, List, subst}
 use Rattle.std.proofs.lemmas.List.{drop_all}
 use Rattle.b2_base.specs.declared.extent.Extent.{Extent}
-use Rattle.stored_contents.specs.Held.{Holding, IsHeld}
+use Rattle.stored_contents.specs.Held.{IsHeld}
 use Rattle.stored_contents.specs.Room.{IsRoom}
 use Rattle.stored_contents.proofs.Releasing.{held_next, room_next}
 use Rattle.stored_contents.proofs.contents.Contents.release.Goals as goal

@@ -1,6 +1,5 @@
 use Rattle.std.proofs.Common.{[], ◌∷◌, None, Some, ◌≡◌, true, ◌∙◌, refl, sym, subst}
 use Rattle.stored_contents.specs.declared.contents.Contents.{Contents}
-use Rattle.stored_contents.specs.declared.incoming.Incoming.{Incoming}
 use Rattle.stored_contents.specs.declared.uploads.Whole.{Whole}
 use Rattle.stored_contents.specs.Held.{is_all}
 use Rattle.stored_contents.specs.Room.{IsRoom}

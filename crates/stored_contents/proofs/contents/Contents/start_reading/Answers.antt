@@ -1,9 +1,7 @@
-use Rattle.std.proofs.Common.{◌≡◌, ◌==◌, ◌++◌, ◌∷◌, [], None, find, map, refl, ap, ◌∙◌}
+use Rattle.std.proofs.Common.{◌++◌, ◌∷◌, [], map, refl, ap, ◌∙◌}
 use Rattle.blob_extents.specs.States.{pin_extent}
 use Rattle.stored_contents.specs.declared.contents.Contents.{Contents}
 use Rattle.stored_contents.specs.declared.outgoing.Outgoing.{Outgoing}
-use Rattle.stored_contents.specs.Held.{with_read}
-use Rattle.stored_contents.specs.Reads.{outgoing_at}
 use Rattle.stored_contents.proofs.Reading.{room_read}
 use Rattle.stored_contents.proofs.Starting.{held_started}
 use Rattle.stored_contents.proofs.contents.Contents.start_reading.Goals as goal

@@ -1,7 +1,6 @@
-use Rattle.std.proofs.Common.{◌≡◌, ◌+◌, List, [], ◌∷◌, ◌++◌, map, Contains, vec_len, refl, subst, ap, ◌∙◌, sym}
+use Rattle.std.proofs.Common.{◌≡◌, ◌+◌, [], ◌∷◌, ◌++◌, map, vec_len, refl, subst, ap, ◌∙◌}
 use Rattle.std.specs.Prelude.{MatchOption}
 use Rattle.std.proofs.lemmas.List.Elements.{All-contains_itself}
-use Rattle.b2_base.specs.declared.extent.Extent.{Extent}
 use Rattle.blob_extents.specs.States.{pin_extent}
 use Rattle.stored_contents.specs.Room.{IsRoomWith}
 use Rattle.stored_contents.proofs.Reading.{entries_of, items_of, last_pin, loose_there, no_pin, pinned_in_use, room_unpinned, within_both}

@@ -1,7 +1,6 @@
-use Rattle.std.proofs.Common.{◌≡◌, ◌<◌, ◌≤◌, ◌+◌, ◌-◌, arith, length, get_or, sym, ap, ◌∙◌, subst}
+use Rattle.std.proofs.Common.{◌≡◌, ◌<◌, ◌≤◌, ◌+◌, ◌-◌, arith, length, get_or, ap, ◌∙◌, subst}
 use Rattle.b2_base.specs.declared.extent.Extent.{Extent}
 use Rattle.blob_extents.specs.States.{pin_extent}
-use Rattle.blob_extents.specs.declared.states.Pin.{Pin}
 use Rattle.stored_contents.specs.Reads.{zeros_of}
 use Rattle.stored_contents.proofs.OnlyRead.{read_again, safe_now}
 use Rattle.stored_contents.proofs.Parts.{part_read, part_counted, zeros_long, all_read, all_counted}
@@ -19,8 +18,8 @@ loop-pin-preserved g c =
           part_read meaning pins c.loop-pin.pin-index c.pin-item.result c.loop-pin.skip c.saturating_sub-skip.result c.loop-pin.left c.in_ok-count.count within here (sizes (pin_extent c.pin-item.result)) c.in_ok-count.ensures.count next
           c.loop-pin.bytes.items c.read_part.new.bytes.items _
           (c.in_ok-count.ensures.bytes (meaning (pin_extent c.pin-item.result)) i
-            (safe_now (g.D.Disk.state c.args.disk.now) (g.D.Disk.state c.loop-pin.disk) meaning pins c.loop-pin.pin-index c.pin-item.result c.loop-pin.invariant.rests within here safe)
-            (c.loop-pin.invariant.rests.reads i reads))
+          (safe_now (g.D.Disk.state c.args.disk.now) (g.D.Disk.state c.loop-pin.disk) meaning pins c.loop-pin.pin-index c.pin-item.result c.loop-pin.invariant.rests within here safe)
+          (c.loop-pin.invariant.rests.reads i reads))
           (c.loop-pin.invariant.bytes meaning i sizes safe reads);
       count =
           part_counted zeros_of pins c.loop-pin.pin-index c.pin-item.result c.loop-pin.skip c.saturating_sub-skip.result c.loop-pin.left c.in_ok-count.count within here (zeros_long (pin_extent c.pin-item.result)) c.in_ok-count.ensures.count next
