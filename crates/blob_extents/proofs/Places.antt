@@ -2,7 +2,6 @@
 use Rattle.std.proofs.Common.{◌≡◌, ◌⊎◌, inl, inr, ℕ, ◌+◌, ◌-◌, ◌≤◌, ◌<◌, Option, Some, None, Bool, true, false, nat_eq, if◌then◌else◌, List, [], ◌∷◌, ◌++◌, Contains, refl, sym, ap, subst, ◌∙◌, arith}
 use Rattle.std.proofs.lemmas.List.Elements.{Contains-push}
 use Rattle.std.proofs.lemmas.Bool.{cases_lt}
-use Rattle.std.specs.Bool.{OnTrue, OnFalse}
 use Rattle.std.specs.Option.{option_map}
 use Rattle.b2_base.specs.declared.extent.Extent.{Extent}
 use Rattle.extent_space.specs.Room.{Room, Apart, IsTaken, IsTidy, extent_for, first_fit, rounded}
@@ -63,19 +62,3 @@ in_use_still old new e same used = record { taken = subst (λ r. IsTaken r e) (s
 -- what is pinned once more is among the pins
 pub now_pinned : (old new : List Extent) (e : Extent) → new ≡ old ++ e ∷ [] → Contains new e
 now_pinned old new e is = subst (λ l. Contains l e) (sym is) (Contains-push old e)
-
--- whether an extent is in use, from the room
-module _ (r : Room) (u : Uses) (e : Extent) (b : Bool) (same : r ≡ u.room) where
-  pub now_in_use : (e.len ≡ 0 → ⊥) → OnTrue b (IsTaken r e) → OnTrue b (IsInUse u e)
-  now_in_use some taken = by b taken
-    where
-      by : (b : Bool) → OnTrue b (IsTaken r e) → OnTrue b (IsInUse u e)
-      by true taken = record { taken = subst (λ s. IsTaken s e) same taken; none = λ none. absurd (some none) }
-      by false taken = tt
-
-  pub not_in_use : OnFalse b (IsTaken r e → ⊥) → OnFalse b (IsInUse u e → ⊥)
-  not_in_use free = by b free
-    where
-      by : (b : Bool) → OnFalse b (IsTaken r e → ⊥) → OnFalse b (IsInUse u e → ⊥)
-      by true free = tt
-      by false free = λ used. free (subst (λ s. IsTaken s e) (sym same) used.taken)

@@ -1,6 +1,6 @@
 //! The room of contents, and who holds extents in it.
 
-ghost use Rattle.std.specs.Prelude.{◌≡◌, ◌+◌, ◌^◌, ◌≤◌, ◌++◌, ℕ, List, [], ◌∷◌, length, map, All, Contains, IsOk, IfOk, OnOk, OnErr, IfErr, IfSome, IsSome, Some, None};
+ghost use Rattle.std.specs.Prelude.{◌≡◌, ◌+◌, ◌^◌, ◌≤◌, ◌++◌, ℕ, List, [], ◌∷◌, length, map, All, Contains, IsOk, IfOk, OnOk, OnErr, IfErr, Some, None, IsTrue, ◌↔◌, MatchOption};
 ghost use Rattle.std.specs.Bool.{OnTrue, OnFalse};
 ghost use Rattle.std.specs.List.{AllPairs};
 ghost use Rattle.b2_base.specs.Failure.{IfFault};
@@ -111,43 +111,36 @@ impl Blobs {
         Ok(s.keep())
     }
 
-    /// Whether the extent is in use.
+    /// Whether the extent is in use as a whole. One of no bytes is where it stands at the front of the
+    /// area.
     pub fn is_in_use(&self, e: Extent) -> bool
-        ensures yes { OnTrue result (IsInUse self.now e) }
-        ensures no { OnFalse result (IsInUse self.now e → ⊥) }
+        ensures { IsTrue result ↔ IsInUse self.now e }
     {
-        if e.len == 0 {
-            return e.at == 0;
+        if e.len > 0 {
+            return self.space.is_taken(e);
         }
-        self.space.is_taken(e)
+        e.at == 0
     }
 
-    /// Whether the look is one at a content of this room.
-    pub fn is_pinned(&self, p: &Pin) -> bool
-        ensures yes { OnTrue result
-            (Contains self.now.pinned (pin_extent p.now) × IsInUse self.now (pin_extent p.now)) }
-        ensures no { OnFalse result (Contains self.now.pinned (pin_extent p.now)
-            → IsInUse self.now (pin_extent p.now) → ⊥) }
-    {
-        let extent = p.extent();
-        if !self.is_in_use(extent) {
-            return false;
-        }
-        self.pinned.contains(&extent)
-    }
-
-    /// The handle of a content, for an owner that knows where it stands and keeps no handles: None
-    /// where the extent is not in use.
+    /// The handle of a content, for an owner that knows where it stands and keeps no handles. None where
+    /// the extent is not in use.
     pub fn kept(&self, e: Extent) -> Option<Kept>
-        ensures in_use { IfSome result (λ k. (kept_extent k ≡ e) × IsInUse self.now e) }
-        ensures none { IsInUse self.now e → IsSome result }
+        ensures { MatchOption result (IsInUse self.now e → ⊥)
+            (λ k. IsInUse self.now e × (kept_extent k ≡ e)) }
     {
+        // That the room is tidy, and so ends before its limit, is known from here on.
+        let _ = self.space.end();
         if !self.is_in_use(e) {
             return None;
         }
-        // That the room is tidy, and so ends before its limit, is known from here on.
-        let _ = self.space.end();
         Some(Kept::new(e))
+    }
+
+    /// Whether the content is looked at, by this look or by another.
+    pub fn is_pinned(&self, p: &Pin) -> bool
+        ensures { IsTrue result ↔ Contains self.now.pinned (pin_extent p.now) }
+    {
+        self.pinned.contains(&p.extent())
     }
 
     /// Gives back the extent of a content that nobody wants. At `Err` it stays in use.

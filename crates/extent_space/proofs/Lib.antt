@@ -1,6 +1,5 @@
 mod Cuts
 mod Fits
-pub mod InUse
 mod Joins
 pub mod OneRoom
 mod Raises
@@ -8,5 +7,6 @@ mod Returns
 mod Rooms
 pub mod Runs
 pub mod Takes
+mod Told
 pub mod Used
 mod Views

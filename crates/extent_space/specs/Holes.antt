@@ -34,21 +34,16 @@ pub record AreHoles (starts : ℕ → Option ℕ) (end limit : ℕ) : Type 0 whe
 abbrev pub IsInNone : (ℕ → Option ℕ) → ℕ → Type 0
 IsInNone starts b = (to from : ℕ) → starts to ≡ Some from → (b < from) ⊎ (to ≤ b)
 
--- none of them ends after the byte
-abbrev pub EndBefore : (ℕ → Option ℕ) → ℕ → Type 0
-EndBefore starts b = (to from : ℕ) → starts to ≡ Some from → to ≤ b
-
--- the first of them that ends after the byte ends at `to`
-pub record IsNext (starts : ℕ → Option ℕ) (b to from : ℕ) : Type 0 where
-  pub hole : starts to ≡ Some from
-  pub after : b < to
-  pub first : (later start : ℕ) → starts later ≡ Some start → b < later → to ≤ later
-
 -- the hole in which the byte lies ends at `to`; where it lies in none, `to` is the byte
 abbrev pub IsEndOfFree : (ℕ → Option ℕ) → ℕ → ℕ → Type 0
 IsEndOfFree starts b to =
     ((from : ℕ) × (starts to ≡ Some from) × (from ≤ b) × (b < to))
     ⊎ ((to ≡ b) × IsInNone starts b)
+
+-- `n` is the first byte from `at` on that lies in one of them, else the end
+pub record IsFreeFrom (starts : ℕ → Option ℕ) (at end n : ℕ) : Type 0 where
+  pub before : (b : ℕ) → at ≤ b → b < n → IsInNone starts b
+  pub here : (n ≡ end) ⊎ ((to from : ℕ) × (starts to ≡ Some from) × (from ≤ n) × (n < to) × (at ≤ n) × ((n ≡ at) ⊎ (n ≡ from)))
 
 -- the hole from `from` up to `to` is added, where that has a byte
 pub record AddsHole (old new : ℕ → Option ℕ) (from to : ℕ) : Type 0 where

@@ -42,10 +42,6 @@ IsOutside b h = (b < h.from) ⊎ (h.to ≤ b)
 abbrev pub IsUsed : Room → ℕ → Type 0
 IsUsed r b = (b < r.end) × All (IsOutside b) r.holes
 
--- all bytes from `from` up to `to` are in use
-abbrev pub AreUsed : Room → ℕ → ℕ → Type 0
-AreUsed r from to = (b : ℕ) → from ≤ b → b < to → IsUsed r b
-
 -- none of the bytes from `from` up to `to` is in use
 abbrev pub IsFree : Room → ℕ → ℕ → Type 0
 IsFree r from to = (b : ℕ) → from ≤ b → b < to → IsUsed r b → ⊥

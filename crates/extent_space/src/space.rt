@@ -1,15 +1,14 @@
 //! The holes of an area and its end.
 
-ghost use Rattle.std.specs.Prelude.{◌≡◌, ℕ, ◌+◌, ◌^◌, ◌<◌, ◌≤◌, ◌⊎◌, Some, None, All, IfOk, IfSome, OnOk, OnErr, MatchOption};
-ghost use Rattle.std.specs.Bool.{OnTrue, OnFalse};
+ghost use Rattle.std.specs.Prelude.{◌≡◌, ℕ, ◌+◌, ◌^◌, ◌<◌, ◌≤◌, ◌⊎◌, Some, None, All, IfOk, IfSome, IsTrue, ◌↔◌, OnOk, OnErr, MatchOption};
 ghost use Rattle.std.specs.List.{AllPairs};
 ghost use Rattle.std.specs.Option.{unwrap_or};
 ghost use Rattle.std.specs.Ordering.{nat_cmp};
 ghost use Rattle.std.specs.BTreeMap.{get, IsOrdered, IsUnchanged};
 ghost use Rattle.b2_base.specs.Failure.{IfFault};
 ghost use Rattle.b2_base.specs.declared.extent.Extent.{Extent as Place};
-ghost use Rattle.extent_space.specs.Holes.{AddsHole, AreApart, EndBefore, IsCut, IsEndOfFree, IsInNone, IsNext, front_with};
-ghost use Rattle.extent_space.specs.Room.{Apart, AreUsed, GivesBack, HasFree, IsApartFromTaken, IsFilled, IsFree, IsPlaced, IsRoomOf, IsTaken, IsTidy, IsUsed, IsWhole, Takes, extent_for, first_fit, rounded};
+ghost use Rattle.extent_space.specs.Holes.{AddsHole, AreApart, AreHoles, IsCut, IsEndOfFree, IsFreeFrom, IsInNone, front_with};
+ghost use Rattle.extent_space.specs.Room.{Apart, GivesBack, HasFree, IsApartFromTaken, IsFilled, IsFree, IsPlaced, IsRoomOf, IsTaken, IsTidy, IsUsed, IsWhole, Takes, extent_for, first_fit, rounded};
 
 use b2_base::{Extent, Memory, Or};
 use std::alloc::{AllocError, Global};
@@ -105,6 +104,23 @@ impl Space {
         Ok(Extent { at, len })
     }
 
+    /// Whether the extent is in use as a whole. One of no bytes always is.
+    pub fn is_taken(&self, e: Extent) -> bool
+        ensures { IsTrue result ↔ IsTaken self.now e }
+    {
+        let free = free_from(&self.holes, e.at, self.end);
+        if e.len == 0 {
+            return true;
+        }
+        if e.at % BLOCK != 0 {
+            return false;
+        }
+        if free <= e.at {
+            return false;
+        }
+        e.len <= free - e.at
+    }
+
     /// Gives back what was taken.
     pub fn give_back(&mut self, e: Extent) -> Result<(), Memory>
         requires taken { IsTaken self.old e }
@@ -128,43 +144,6 @@ impl Space {
         self.holes.insert(last, from)?;
         self.holes.remove(&e.at);
         Ok(())
-    }
-
-    /// Whether all bytes of the extent are in use. One of no bytes always counts as taken. It looks at
-    /// one hole, and so costs no more than a look-up.
-    pub fn is_taken(&self, e: Extent) -> bool
-        ensures yes { OnTrue result (IsTaken self.now e) }
-        ensures no { OnFalse result (IsTaken self.now e → ⊥) }
-    {
-        // What holds of every space is known from here on.
-        let _ = &self.holes;
-        if e.len == 0 {
-            return true;
-        }
-        if e.at % BLOCK != 0 {
-            return false;
-        }
-        // A length that is no longer than the area can be rounded.
-        if e.len > self.end {
-            return false;
-        }
-        self.is_used(e.at, rounded(e.len))
-    }
-
-    // Whether all of so many bytes from a place on are in use.
-    fn is_used(&self, from: u64, room: u64) -> bool
-        requires { 0 < room }
-        ensures yes { OnTrue result (AreUsed self.now from (from + room)) }
-        ensures no { OnFalse result (AreUsed self.now from (from + room) → ⊥) }
-    {
-        let _ = &self.holes;
-        if from > self.end || room > self.end - from {
-            return false;
-        }
-        match hole_after(&self.holes, from) {
-            Some((_, start)) => from + room <= start,
-            None => true,
-        }
     }
 
     // Takes the bytes from `from` up to `to`, all of which are free.
@@ -232,16 +211,6 @@ fn hole_at(holes: &BTreeMap<u64, u64>, at: u64) -> Option<(u64, u64)>
     }
 }
 
-// The end and the start of the first hole that ends after the byte.
-fn hole_after(holes: &BTreeMap<u64, u64>, at: u64) -> Option<(u64, u64)>
-    ensures { MatchOption result
-        (EndBefore (get nat_cmp holes.now) at)
-        (λ h. IsNext (get nat_cmp holes.now) at h.0 h.1) }
-{
-    let (to, from) = holes.range((Bound::Excluded(at), Bound::Unbounded)).next()?;
-    Some((*to, *from))
-}
-
 // The start of the hole that ends at this byte, else the byte itself.
 fn start_of_free(holes: &BTreeMap<u64, u64>, at: u64) -> u64
     ensures { result ≡ unwrap_or (get nat_cmp holes.now at) at }
@@ -257,6 +226,18 @@ fn end_of_free(holes: &BTreeMap<u64, u64>, at: u64) -> u64
     match hole_at(holes, at) {
         Some((to, _)) => to,
         None => at,
+    }
+}
+
+// The first byte from this one on that lies in a hole, else the end.
+fn free_from(holes: &BTreeMap<u64, u64>, at: u64, end: u64) -> u64
+    requires { (limit : ℕ) × AreHoles (get nat_cmp holes.now) end limit }
+    ensures { IsFreeFrom (get nat_cmp holes.now) at end result }
+{
+    match holes.range((Bound::Excluded(at), Bound::Unbounded)).next() {
+        Some((_, from)) if *from < at => at,
+        Some((_, from)) => *from,
+        None => end,
     }
 }
 

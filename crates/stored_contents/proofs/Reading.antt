@@ -6,8 +6,8 @@ use Rattle.std.proofs.Math.Seq.{take-nil, drop-nil}
 use Rattle.std.specs.Map.{lookup}
 use Rattle.std.specs.BTreeMap.{BTreeMap, is_at}
 use Rattle.std.specs.Ordering.{nat_cmp}
-use Rattle.std.proofs.lemmas.Bool.{cases_eq, false≢true, eq-eqb, ne_eqb}
-use Rattle.std.specs.Option.{IsSome, is_some, option_to_list}
+use Rattle.std.proofs.lemmas.Bool.{cases_eq, eq-eqb, ne_eqb}
+use Rattle.std.specs.Option.{option_to_list}
 use Rattle.std.proofs.lemmas.List.{append-nil, length_push, get_or_push, map_push}
 use Rattle.std.proofs.lemmas.List.Concat.{flat_map-append}
 use Rattle.std.proofs.lemmas.List.Elements.{All-append, All-contains, All-contains_itself, All-push, All-weaker, Contains-append_left, Contains-append_right, Contains-get_or}
@@ -42,10 +42,6 @@ entries_of m = m.entries
 
 abbrev pub items_of : Vec Outgoing Global → List Outgoing
 items_of v = v.items
-
--- there is one, and there is none
-pub not_both : {X : Type 0} (o : Option X) → o ≡ None → IsSome o → ⊥
-not_both o none some = false≢true (sym (ap is_some none) ∙ some)
 
 -- ---- the room
 

@@ -149,6 +149,9 @@ impl Contents {
         if !self.blobs.is_pinned(&pin) {
             return Ok(());
         }
+        if !self.blobs.is_in_use(pin.extent()) {
+            return Ok(());
+        }
         self.blobs.unpin(pin)?;
         Ok(())
     }

@@ -1,16 +1,19 @@
-use Rattle.std.proofs.Common.{ap, arith}
-use Rattle.extent_space.proofs.InUse.{never_taken, not_taken, taken_by}
+use Rattle.std.proofs.Common.{subst, sym, arith}
+use Rattle.std.proofs.lemmas.Bool.{leb-true, le-leb, false≢true}
+use Rattle.extent_space.specs.Room.{IsTaken}
+use Rattle.extent_space.proofs.Told.{in_use, told}
 use Rattle.extent_space.proofs.space.Space.is_taken.Goals as goal
 
-pub returns-then-e-self-clause-no : goal.returns-then-e-self-clause-no
-returns-then-e-self-clause-no c = let m = c.self.inside in
-    never_taken c.args.self.now c.args.e (omega (arith, c.if-e-eq0.false))
-    (omega (arith, c.if-e-self.true, ap (λ r. r.end) c.self.view_is))
+pub returns-then-free-e : goal.returns-then-free-e
+returns-then-free-e c = let m = c.self.inside in (
+  λ is. absurd (false≢true is),
+  λ taken. let t = told m.holes c.self.invariant.0 m.end m.limit c.self.invariant.1 c.args.e c.free_from-free.result c.free_from-free.ensures (subst (λ r. IsTaken r c.args.e) (sym c.self.view_is) taken) (omega (arith, c.if-e-eq0.false)) in
+      absurd (omega (arith, t.1, c.if-free-e.true)),
+)
 
-pub returns-clause-yes : goal.returns-clause-yes
-returns-clause-yes c =
-    taken_by c.args.self.now c.args.e (omega (arith, c.if-e-eq0.false)) c.is_used.result c.rounded.result c.rounded.ensures (omega (arith, c.if-e-ne0.false)) c.is_used.ensures.yes
-
-pub returns-clause-no : goal.returns-clause-no
-returns-clause-no c =
-    not_taken c.args.self.now c.args.e (omega (arith, c.if-e-eq0.false)) c.is_used.result c.rounded.result c.rounded.ensures c.is_used.ensures.no
+pub returns : goal.returns
+returns c = let m = c.self.inside in (
+  λ is. subst (λ r. IsTaken r c.args.e) c.self.view_is (in_use m.holes c.self.invariant.0 m.end m.limit c.self.invariant.1 c.args.e c.free_from-free.result c.free_from-free.ensures (omega (arith, c.if-e-ne0.false)) (omega (arith, c.if-free-e.false)) (leb-true _ _ is)),
+  λ taken. let t = told m.holes c.self.invariant.0 m.end m.limit c.self.invariant.1 c.args.e c.free_from-free.result c.free_from-free.ensures (subst (λ r. IsTaken r c.args.e) (sym c.self.view_is) taken) (omega (arith, c.if-e-eq0.false)) in
+      le-leb _ _ t.2,
+)

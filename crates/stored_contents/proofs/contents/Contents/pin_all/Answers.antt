@@ -5,7 +5,7 @@ use Rattle.b2_base.specs.declared.extent.Extent.{Extent}
 use Rattle.blob_extents.specs.States.{pin_extent}
 use Rattle.blob_extents.specs.Uses.{IsInUse}
 use Rattle.stored_contents.specs.Room.{IsRoomWith, live}
-use Rattle.stored_contents.proofs.Reading.{not_both, room_pinned}
+use Rattle.stored_contents.proofs.Reading.{room_pinned}
 use Rattle.stored_contents.proofs.contents.Contents.pin_all.Goals as goal
 
 pub returns-in_default-clause-pieces : goal.returns-in_default-clause-pieces
@@ -16,14 +16,14 @@ returns-in_default-clause-pieces c owned room pieces =
     let piece = get_or c.args.pieces.now i none in
     let has : Contains owned piece = All-get_or (Contains owned) c.args.pieces.now i none c.loop-piece-test.true pieces in
     let used : IsInUse t.blobs piece = All-contains (IsInUse t.blobs) (live owned t) piece (c.loop-piece.invariant.room owned room pieces).in_use (Contains-append_left owned t.blobs.released piece has) in
-    absurd (not_both c.kept.result c.in_default.is (c.kept.ensures.none used))
+    absurd (c.in_default.ensures used)
 
 pub loop-piece-preserved : goal.loop-piece-preserved
 loop-piece-preserved c =
     let old = c.loop-piece.self in
     let piece = get_or c.args.pieces.now c.loop-piece.piece-index (record { at = 0; len = 0 }) in
-    let pinned : c.pin.new.self.pinned ≡ old.blobs.pinned ++ piece ∷ [] = c.in_ok-pin.ensures.pinned ∙ ap (λ e. old.blobs.pinned ++ e ∷ []) c.in-Some.ensures.in_use.0 in
-    let extent : pin_extent c.in_ok-pin.field-0 ≡ piece = c.in_ok-pin.ensures.extent ∙ c.in-Some.ensures.in_use.0 in
+    let pinned : c.pin.new.self.pinned ≡ old.blobs.pinned ++ piece ∷ [] = c.in_ok-pin.ensures.pinned ∙ ap (λ e. old.blobs.pinned ++ e ∷ []) c.in-Some.ensures.1 in
+    let extent : pin_extent c.in_ok-pin.field-0 ≡ piece = c.in_ok-pin.ensures.extent ∙ c.in-Some.ensures.1 in
     let more : map pin_extent c.push.new.self.items ≡ map pin_extent c.loop-piece.pins.items ++ piece ∷ [] =
     ap (map pin_extent) c.in_ok-push.ensures.items
     ∙ map_push pin_extent c.loop-piece.pins.items c.in_ok-pin.field-0

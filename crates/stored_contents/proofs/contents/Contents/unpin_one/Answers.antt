@@ -6,6 +6,9 @@ use Rattle.stored_contents.proofs.contents.Contents.unpin_one.Goals as goal
 pub returns-then-not-is_pinned-clause-released : goal.returns-then-not-is_pinned-clause-released
 returns-then-not-is_pinned-clause-released c = All-contains_itself c.args.self.now.blobs.released
 
+pub returns-then-not-is_in_use-clause-released : goal.returns-then-not-is_in_use-clause-released
+returns-then-not-is_in_use-clause-released c = All-contains_itself c.args.self.now.blobs.released
+
 pub returns-clause-ends : goal.returns-clause-ends
 returns-clause-ends c pinned used =
     record {
