@@ -28,6 +28,10 @@ front_and_more n m xs bytes is =
     long : length bytes ≡ min m (length (drop n xs))
     long = ap length is ∙ length-take m (drop n xs)
 
+-- no more than are taken
+pub at_most : (n count : ℕ) (xs : List ℕ) → count ≡ length (take n xs) → count ≤ n
+at_most n count xs is = omega (arith, is, length-take n xs)
+
 -- so many bytes of the number's reader have come under it
 abbrev pub has_come : Holding → ℕ → ℕ → ℕ → Holding
 has_come h c len count = record h { came = update nat_eq h.came c (Some (record { len = len; bytes = take count (h.read c) })) }

@@ -1,16 +1,14 @@
-use Rattle.std.proofs.Common.{◌≡◌, ◌≤◌, ◌-◌, ℕ, List, length, drop, nat_eq, arith, subst, sym, ap, length-take}
+use Rattle.std.proofs.Common.{◌≡◌, ◌≤◌, ◌-◌, ℕ, List, length, nat_eq, arith, subst, sym, ap}
 use Rattle.std.specs.Map.{update}
-use Rattle.stored_contents.specs.Held.{IsHeld, read_by, with_bytes}
-use Rattle.stored_contents.specs.Reads.{outgoing_at, zeros_of}
-use Rattle.stored_contents.proofs.Copying.{comes_more, has_come}
+use Rattle.stored_contents.specs.Held.{IsHeld, with_bytes}
+use Rattle.stored_contents.proofs.Copying.{at_most, comes_more, has_come}
 use Rattle.stored_contents.proofs.contents.Contents.copy_all.Goals as goal
 
 pub loop-left-preserved : goal.loop-left-preserved
 loop-left-preserved g c =
     let bytes = c.in_ok-bytes.bytes.items in
     let left = c.loop-left.left in
-    let zeros = drop (c.args.len - left) (read_by zeros_of (outgoing_at c.loop-left.self c.args.c)) in
-    let less : length bytes ≤ left = omega (arith, c.in_ok-bytes.ensures.count, c.least.ensures, length-take c.least.result zeros) in
+    let less : length bytes ≤ left = omega (arith, at_most c.least.result (length bytes) _ c.in_ok-bytes.ensures.count, c.least.ensures) in
     let count : c.len.result ≡ length bytes = omega (arith, c.len.ensures, c.deref.ensures.len, ap (λ (l : List ℕ). length l) c.deref.ensures.value) in
     record {
       within = omega (arith, c.loop-left.invariant.within);
