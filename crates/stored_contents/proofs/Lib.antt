@@ -14,3 +14,4 @@ pub mod Releasing
 pub mod Ending
 pub mod Starting
 pub mod Copying
+pub mod Empty

@@ -13,7 +13,7 @@ use Rattle.std.proofs.lemmas.List.Concat.{flat_map-append}
 use Rattle.std.proofs.lemmas.List.Elements.{All-append, All-contains, All-contains_itself, All-push, All-weaker, Contains-append_left, Contains-append_right, Contains-get_or}
 use Rattle.b2_base.specs.declared.extent.Extent.{Extent}
 use Rattle.disk_model.specs.State.{DiskState}
-use Rattle.extent_space.specs.Room.{Apart}
+use Rattle.extent_space.specs.Room.{Apart, IsUsed}
 use Rattle.blob_extents.specs.Bytes.{IsSafe}
 use Rattle.blob_extents.specs.declared.states.Pin.{Pin}
 use Rattle.blob_extents.specs.States.{pin_extent}
@@ -24,12 +24,12 @@ use Rattle.stored_contents.specs.declared.incoming.Incoming.{Incoming}
 use Rattle.stored_contents.specs.declared.outgoing.Outgoing.{Outgoing}
 use Rattle.stored_contents.specs.Held.{Coming, Holding, IsHeld, IsComing, read_by, with_read}
 use Rattle.stored_contents.specs.Reads.{IsRead, outgoing_at}
-use Rattle.stored_contents.specs.Room.{IsRoom, IsRoomWith, IsStaged, AreApart, extent_of, incoming_at, live, pins_of, times}
+use Rattle.stored_contents.specs.Room.{IsRoom, IsRoomWith, IsComingIn, IsIn, IsStaged, AreApart, extent_of, incoming_at, live, pins_of, times}
 use Rattle.stored_contents.proofs.Counts.{times_both, times_around, times_pieces, some_there, there_some}
 use Rattle.stored_contents.proofs.Lists.{in_pieces, found_there}
 use Rattle.stored_contents.proofs.OnlyRead.{safe_still}
 use Rattle.stored_contents.specs.Changes.{Unpins}
-use Rattle.stored_contents.proofs.Unpins.{in_use_after, apart_after, all_after, other_after, pinned_after}
+use Rattle.stored_contents.proofs.Unpins.{in_use_after, apart_after, all_after, other_after, pinned_after, used_after}
 
 pub same_incoming : (old new : Contents) → new.incoming.entries ≡ old.incoming.entries → (q : ℕ) → incoming_at new q ≡ incoming_at old q
 same_incoming old new same q = ap (at q) same
@@ -52,18 +52,24 @@ room_by : (old new : Contents) (owned before after : List Extent) → IsRoomWith
     → AllPairs Apart (live owned new)
     → ((f : Extent) → All (Apart f) (live owned old) → IsInUse old.blobs f → IsInUse new.blobs f)
     → ((f : Extent) → All (Apart f) (live owned old) → All (Apart f) (live owned new))
+    → ((b : ℕ) → IsUsed new.blobs.room b → IsUsed old.blobs.room b × (IsIn (live owned old) b → IsIn (live owned new) b))
     → All (Contains (live owned new)) new.blobs.pinned
     → ((e : Extent) → times e new.blobs.pinned ≡ times e (after ++ flat_map pins_of new.outgoing.items))
     → IsRoomWith new owned after
-room_by old new owned before after room same in_use apart others others_apart pinned pins = record {
+room_by old new owned before after room same in_use apart others others_apart no_more pinned pins = record {
   in_use = in_use;
   apart = apart;
   staged = λ q. subst (λ o. IfSome o (λ i. IsStaged new.blobs (live owned new) (extent_of i))) (sym (same_incoming old new same q)) (still (incoming_at old q) (room.staged q));
   staged_apart = λ a b not. subst (λ o. AreApart o (incoming_at new b)) (sym (same_incoming old new same a)) (subst (AreApart (incoming_at old a)) (sym (same_incoming old new same b)) (room.staged_apart a b not));
+  no_more = λ b used. let was = no_more b used in held b was.1 (room.no_more b was.0);
   pinned = pinned;
   pins = pins;
 }
   where
+    held : (b : ℕ) → (IsIn (live owned old) b → IsIn (live owned new) b) → IsIn (live owned old) b ⊎ IsComingIn old b → IsIn (live owned new) b ⊎ IsComingIn new b
+    held b whole (inl was) = inl (whole was)
+    held b whole (inr coming) = inr (coming.0, coming.1, same_incoming old new same coming.0 ∙ coming.2, coming.3)
+
     still : (o : Option Incoming) → IfSome o (λ i. IsStaged old.blobs (live owned old) (extent_of i)) → IfSome o (λ i. IsStaged new.blobs (live owned new) (extent_of i))
     still None staged = tt
     still (Some i) staged = record { in_use = others (extent_of i) staged.apart staged.in_use; apart = others_apart (extent_of i) staged.apart }
@@ -81,6 +87,7 @@ room_unpinned old new owned before after e unpins out others same read loose roo
     (apart_after owned e old.blobs new.blobs unpins room.apart)
     (λ f apart in_use. other_after owned e f old.blobs new.blobs unpins others apart in_use)
     (λ f apart. all_after (Apart f) owned e old.blobs new.blobs unpins apart)
+    (used_after owned e old.blobs new.blobs unpins)
     (pinned_after owned e old.blobs new.blobs unpins out room.pinned)
     counted
   where
@@ -127,6 +134,7 @@ stays_so old new owned before after room same_room released same pinned pins =
     (subst (AllPairs Apart) (sym same_live) room.apart)
     (λ f apart in_use. in_use_still old.blobs new.blobs f same_room in_use)
     (λ f apart. subst (All (Apart f)) (sym same_live) apart)
+    (λ b used. (subst (λ r. IsUsed r b) same_room used, λ is. (is.0, subst (λ l. Contains l is.0) (sym same_live) is.1, is.2)))
     (subst (λ l. All (Contains l) new.blobs.pinned) (sym same_live) pinned)
     pins
 

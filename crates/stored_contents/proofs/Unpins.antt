@@ -1,18 +1,19 @@
 -- What stands in the area after a pin ends.
-use Rattle.std.proofs.Common.{◌≡◌, ◌⊎◌, inl, inr, ◌+◌, ◌-◌, ◌<◌, List, ◌++◌, length, get_or, All, Contains, refl, sym, ap, subst, ◌∙◌, arith, length-append}
+use Rattle.std.proofs.Common.{◌≡◌, ℕ, ◌⊎◌, inl, inr, ◌+◌, ◌-◌, ◌<◌, List, ◌++◌, length, get_or, All, Contains, refl, sym, ap, subst, ◌∙◌, arith, length-append}
 use Rattle.std.specs.List.{AllPairs, remove}
 use Rattle.std.proofs.lemmas.List.{get_or-append-add}
 use Rattle.std.proofs.lemmas.List.Edits.{remove-append_right}
 use Rattle.std.proofs.lemmas.List.Elements.{All-contains_itself, Contains-get_or}
 use Rattle.std.proofs.lemmas.List.Quantifiers.{all_pairs_remove}
 use Rattle.b2_base.specs.declared.extent.Extent.{Extent}
-use Rattle.extent_space.specs.Room.{Apart, GivesBack}
+use Rattle.extent_space.specs.Room.{Apart, Covers, GivesBack, IsUsed}
 use Rattle.blob_extents.specs.Uses.{Uses, IsInUse, TakesOut}
 use Rattle.blob_extents.proofs.Places.{in_use_still}
 use Rattle.stored_contents.specs.Changes.{Goes, Unpins}
+use Rattle.stored_contents.specs.Room.{IsIn}
 use Rattle.stored_contents.proofs.Lists.{all_left, apart_from_left, still_there}
 use Rattle.stored_contents.proofs.Counts.{is_there}
-use Rattle.stored_contents.proofs.Rooms.{apart_sym}
+use Rattle.stored_contents.proofs.Rooms.{apart_sym, not_both}
 
 pub unpins : (e : Extent) (old new : Uses)
     → (Contains new.pinned e → (new.room ≡ old.room) × (new.released ≡ old.released))
@@ -25,7 +26,7 @@ unpins e old new held kept back = by (is_there e new.pinned) (is_there e old.rel
     by (inl pinned) there = inl (held pinned)
     by (inr last) (inl there) =
         let out = (back last there).1 in
-        inr (record { place = out.0; within = out.1; here = out.2; left = out.3; last = last })
+        inr (record { place = out.0; within = out.1; here = out.2; left = out.3; last = last; back = (back last there).0 })
     by (inr last) (inr absent) = inl (kept absent)
 
 -- those that were owned or go back later, and those that still do
@@ -99,3 +100,20 @@ pinned_after owned e old new unpins out pinned = by unpins
         (still_there (owned ++ old.released) (length owned + goes.place) e (get_or new.pinned k d) (whole_within owned e old new goes) (whole_here owned e old new goes)
         (λ is. goes.last (subst (Contains new.pinned) (sym is) (Contains-get_or new.pinned k d lt)))
         (left k d lt))
+
+-- a byte in use was so before, and whose it was it still is
+pub used_after : (owned : List Extent) (e : Extent) (old new : Uses) → Unpins e old new → (b : ℕ) → IsUsed new.room b
+    → IsUsed old.room b × (IsIn (owned ++ old.released) b → IsIn (owned ++ new.released) b)
+used_after owned e old new (inl stays) b used =
+    (subst (λ r. IsUsed r b) stays.0 used, λ is. (is.0, subst (λ l. Contains (owned ++ l) is.0) (sym stays.1) is.1, is.2))
+used_after owned e old new (inr goes) b used =
+    let left = (goes.back.used b).0 used in (
+      left.0,
+      λ is. (
+        is.0,
+        subst (λ l. Contains l is.0) (sym (whole_left owned e old new goes))
+            (still_there (owned ++ old.released) (length owned + goes.place) e is.0 (whole_within owned e old new goes) (whole_here owned e old new goes)
+            (λ same. not_both e b (subst (λ x. Covers x b) (sym same) is.2) left.1) is.1),
+        is.2,
+      ),
+    )

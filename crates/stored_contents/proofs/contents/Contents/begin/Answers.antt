@@ -35,7 +35,7 @@ returns-clause-room g c owned room =
     let came : Incoming = record { staging = c.in_ok-staging.staging; rest = c.new.result } in
     room_begun c.lose.new.self new owned [] c.args.c came
     (record { set = set_by_map c.lose.new.self new c.args.c (Some came) c.in_ok-insert.ensures.updates; pinned = c.begin.ensures.pinned; released = c.begin.ensures.released; outgoing = refl })
-    c.in_ok-staging.ensures.in_use c.in_ok-staging.ensures.apart c.begin.ensures.others (c.in_ok-lose.ensures.room owned room)
+    c.in_ok-lose.ensures.gone c.in_ok-staging.ensures.takes c.in_ok-staging.ensures.in_use c.in_ok-staging.ensures.apart c.begin.ensures.others (c.in_ok-lose.ensures.room owned room)
 
 pub returns-clause-held : goal.returns-clause-held
 returns-clause-held g c h held =

@@ -10,7 +10,7 @@ use Rattle.stored_contents.proofs.contents.Contents.piece.Goals as goal
 pub returns-in_default-clause-room : goal.returns-in_default-clause-room
 returns-in_default-clause-room g c owned room =
     let new : Contents = record { blobs = c.args.self.now.blobs; incoming = c.remove.new.self; outgoing = c.args.self.now.outgoing } in
-    room_none c.args.self.now new owned [] c.args.c (record { set = set_by_map c.args.self.now new c.args.c None c.remove.ensures.updates; pinned = refl; released = refl; outgoing = refl }) refl room
+    room_none c.args.self.now new owned [] c.args.c (record { set = set_by_map c.args.self.now new c.args.c None c.remove.ensures.updates; pinned = refl; released = refl; outgoing = refl }) refl (sym c.remove.ensures.value ∙ c.in_default.is) room
 
 pub returns-in_default-clause-held : goal.returns-in_default-clause-held
 returns-in_default-clause-held g c h held =
