@@ -15,3 +15,4 @@ pub mod Ending
 pub mod Starting
 pub mod Copying
 pub mod Empty
+pub mod Spared

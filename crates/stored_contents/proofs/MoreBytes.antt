@@ -15,6 +15,7 @@ use Rattle.stored_contents.specs.declared.incoming.Incoming.{Incoming}
 use Rattle.stored_contents.specs.Held.{Coming, Holding, IsHeld, IsComing, IsIncoming, Spares, with_bytes}
 use Rattle.stored_contents.specs.Room.{IsRoom, IsStaged, AreApart, extent_of, incoming_at, live}
 use Rattle.stored_contents.proofs.Rooms.{OnlyUpload, staged_at}
+use Rattle.stored_contents.proofs.Spared.{spares_step}
 use Rattle.stored_contents.proofs.Holdings.{held_set}
 
 -- ---- the first n bytes of m ++ b, where some of them are those of m
@@ -96,11 +97,10 @@ module _ (d e : DiskState) (i : Incoming) where
   }
 
   pub spares_upload : (t : Contents) (owned : List Extent) (c : ℕ) → incoming_at t c ≡ Some i → IsRoom t owned → Changes (StaysOutside (extent_of i)) d e → ReadsAfter (StaysOutside (extent_of i)) d e → ((x : Extent) (m : List ℕ) → Apart (extent_of i) x → IsSafe d x m → IsSafe e x m) → Spares owned d e
-  spares_upload t owned c is room changes reads others = record {
-    changes = record { crash = λ image left. let from = changes.crash image left in (from.0, from.1, from.2.others); time = changes.time };
-    reads = λ image given. let to = reads image given in (to.0, to.1, to.2.others);
-    safe = λ x m has. others x m (All-contains (Apart (extent_of i)) (live owned t) x (staged_at t owned [] c i is room).apart (Contains-append_left owned t.blobs.released x has));
-  }
+  spares_upload t owned c is room changes reads others = spares_step owned d e
+      (record { crash = λ image left. let from = changes.crash image left in (from.0, from.1, from.2.others); time = changes.time })
+      (λ image given. let to = reads image given in (to.0, to.1, to.2.others))
+      (λ x m has. others x m (All-contains (Apart (extent_of i)) (live owned t) x (staged_at t owned [] c i is room).apart (Contains-append_left owned t.blobs.released x has)))
 
 -- bytes of the upload came, with the disk from d to e
 module _ (old new : Contents) (c : ℕ) (i j : Incoming) (d e : DiskState) (h : Holding) (bytes : List ℕ) where

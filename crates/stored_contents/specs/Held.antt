@@ -5,8 +5,8 @@ use Rattle.b2_base.specs.declared.extent.Extent.{Extent}
 use Rattle.disk_model.specs.declared.area.DiskImage.{DiskImage}
 use Rattle.disk_model.specs.declared.area.Area.TheVariants.{Blobs}
 use Rattle.disk_model.specs.Image.{SameBut}
-use Rattle.disk_model.specs.State.{DiskState, Changes, ReadsAfter}
-use Rattle.blob_extents.specs.Bytes.{IsSafe, ReadsAt}
+use Rattle.disk_model.specs.State.{DiskState, After, LeavesOnly, ReadsAfter}
+use Rattle.blob_extents.specs.Bytes.{IsSafe, ReadsAt, StandsAt}
 use Rattle.blob_extents.specs.States.{HasHashed, staging_filled}
 use Rattle.stored_contents.specs.declared.contents.Contents.{Contents}
 use Rattle.stored_contents.specs.declared.incoming.Incoming.{Incoming}
@@ -91,8 +91,13 @@ pub record IsHeld (t : Contents) (d : DiskState) (h : Holding) : Type 0 where
 
 -- ---- the disk, whatever comes of a call
 
--- No other area changes, and what is safe in an owned extent stays safe.
+-- an image that might have been left but for its contents, where what was safe in an owned extent stands
+pub record IsSpared (owned : List Extent) (old : DiskState) (c : DiskImage) : Type 0 where
+  pub others : After old (SameBut Blobs) c
+  pub stands : (e : Extent) (m : List ℕ) → Contains owned e → IsSafe old e m → StandsAt c e m
+
+-- No other area changes, what is safe in an owned extent stays safe, and a crash at any moment leaves both so.
 pub record Spares (owned : List Extent) (old new : DiskState) : Type 0 where
-  pub changes : Changes (SameBut Blobs) old new
+  pub left : LeavesOnly old new (IsSpared owned old)
   pub reads : ReadsAfter (SameBut Blobs) old new
   pub safe : (e : Extent) (m : List ℕ) → Contains owned e → IsSafe old e m → IsSafe new e m

@@ -4,7 +4,7 @@ ghost use Rattle.std.specs.Prelude.{◌≡◌, ◌+◌, ◌<◌, ◌≤◌, ◌�
 ghost use Rattle.std.specs.List.{flat_map};
 ghost use Rattle.std.specs.Map.{update};
 ghost use Rattle.b2_base.specs.declared.extent.Extent.{Extent as Place};
-ghost use Rattle.stored_contents.specs.Held.{Holding, IsHeld};
+ghost use Rattle.stored_contents.specs.Held.{Holding, IsHeld, Spares};
 ghost use Rattle.stored_contents.specs.Room.{IsRoom};
 ghost use Rattle.stored_contents.specs.declared.copies.TheConstants.{COPYING};
 ghost use Rattle.stored_contents.specs.Sealed.{IsCopied};
@@ -41,6 +41,9 @@ impl Contents {
             → at + len ≤ length (flat_map h.meaning pieces.now)
             → IfOk result (IsCopied self.new (D.state disk.new) h COPYING
             (take len (drop at (flat_map h.meaning pieces.now)))) }
+        ensures spares { (owned : List Place) → IsRoom self.old owned
+            → All (Contains owned) pieces.now
+            → Spares owned (D.state disk.old) (D.state disk.new) }
     {
         self.start_reading(alloc, disk, COPYING, pieces, at, len)?;
         let whole = self.copied(alloc, disk, COPYING, len)?;
@@ -60,6 +63,8 @@ impl Contents {
         ensures held { (h : Holding) → IsHeld self.old (D.state disk.old) h
             → length (h.read c) ≡ len
             → IfOk result (IsCopied self.new (D.state disk.new) h c (h.read c)) }
+        ensures spares { (owned : List Place) → IsRoom self.old owned
+            → Spares owned (D.state disk.old) (D.state disk.new) }
     {
         if let Err(error) = self.begin(alloc, disk, c, len) {
             return Err(no_room(error));
@@ -92,6 +97,8 @@ impl Contents {
             → OnOk result (IsHeld self.new (D.state disk.new) (record h {
               came = update nat_eq h.came c (Some (record { len = len; bytes = h.read c }));
             })) }
+        ensures spares { (owned : List Place) → IsRoom self.old owned
+            → Spares owned (D.state disk.old) (D.state disk.new) }
     {
         let mut left = len;
         while left > 0 {

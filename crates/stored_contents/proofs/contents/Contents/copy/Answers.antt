@@ -16,3 +16,9 @@ returns-clause-held g c h held pieces enough =
     copied_of c.copied.new.self (g.D.Disk.state c.copied.new.disk) h COPYING bytes c.in_ok-whole.whole
     (c.in_ok-whole.ensures.held (record h { read = with_read h.read COPYING bytes }) reads
     (ap (λ (l : List ℕ). length l) (read_here c.copied.new.self (g.D.Disk.state c.copied.new.disk) h COPYING bytes) ∙ long))
+
+pub returns-in_err-whole-clause-spares : goal.returns-in_err-whole-clause-spares
+returns-in_err-whole-clause-spares g c owned room pieces = c.copied.ensures.spares owned (c.in_ok-start_reading.ensures.room owned room pieces)
+
+pub returns-clause-spares : goal.returns-clause-spares
+returns-clause-spares g c owned room pieces = c.copied.ensures.spares owned (c.in_ok-start_reading.ensures.room owned room pieces)

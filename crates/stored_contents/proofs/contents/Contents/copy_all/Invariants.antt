@@ -1,7 +1,7 @@
 use Rattle.std.proofs.Common.{◌≡◌, ◌≤◌, ◌-◌, nat_eq, List, [], Some, length, take}
 use Rattle.std.specs.Map.{update}
 use Rattle.b2_base.specs.declared.extent.Extent.{Extent}
-use Rattle.stored_contents.specs.Held.{Holding, IsHeld}
+use Rattle.stored_contents.specs.Held.{Holding, IsHeld, Spares}
 use Rattle.stored_contents.specs.Room.{IsRoom}
 use Rattle.stored_contents.proofs.contents.Contents.copy_all.Given as goal
 
@@ -9,6 +9,7 @@ abbrev pub invariant-loop-left : goal.invariant-loop-left
 invariant-loop-left g l = record {
   within : l.left ≤ l.fn.len;
   room : (owned : List Extent) → IsRoom l.fn.self owned → IsRoom l.self owned;
+  spares : (owned : List Extent) → IsRoom l.fn.self owned → Spares owned (g.D.Disk.state l.fn.disk) (g.D.Disk.state l.disk);
   held :
       (h : Holding) → IsHeld l.fn.self (g.D.Disk.state l.fn.disk) h → length (h.read l.fn.c) ≡ l.fn.len
       → h.came l.fn.c ≡ Some (record { len = l.fn.len; bytes = [] })

@@ -4,6 +4,7 @@ use Rattle.stored_contents.specs.Held.{with_bytes}
 use Rattle.stored_contents.proofs.Updates.{set_by_map, set_twice}
 use Rattle.stored_contents.proofs.Rooms.{OnlyUpload, room_none, room_came}
 use Rattle.stored_contents.proofs.Holdings.{held_still}
+use Rattle.stored_contents.proofs.Spared.{spares_none}
 use Rattle.stored_contents.proofs.MoreBytes.{coming_none, held_more, spares_upload}
 use Rattle.stored_contents.proofs.contents.Contents.piece.Goals as goal
 
@@ -18,6 +19,9 @@ returns-in_default-clause-held g c h held =
     let only : OnlyUpload c.args.self.now new c.args.c None = record { set = set_by_map c.args.self.now new c.args.c None c.remove.ensures.updates; pinned = refl; released = refl; outgoing = refl } in
     held_still c.args.self.now new c.args.c None (g.D.Disk.state c.args.disk.now) h (with_bytes c.args.bytes.now (h.came c.args.c)) only (returns-in_default-clause-room g c h.owned held.room)
     (coming_none (g.D.Disk.state c.args.disk.now) c.args.bytes.now _ (h.came c.args.c) (sym c.remove.ensures.value ∙ c.in_default.is) (held.uploads c.args.c)) held
+
+pub returns-in_default-clause-spares : goal.returns-in_default-clause-spares
+returns-in_default-clause-spares g c owned room = spares_none owned (g.D.Disk.state c.args.disk.now)
 
 pub returns-in_err-incoming-clause-spares : goal.returns-in_err-incoming-clause-spares
 returns-in_err-incoming-clause-spares g c owned room =
