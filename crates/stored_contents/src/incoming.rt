@@ -49,6 +49,7 @@ impl Incoming {
             → Apart (extent_of self) e → length m ≤ e.len
             → ReadsAt (D.state disk.old) e m → ReadsAt (D.state disk.new) e m }
         ensures cause { IfFault result (λ _. Rose (D.faults disk.old) (D.faults disk.new)) }
+        ensures later { D.faults disk.old ≤ D.faults disk.new }
     {
         let Incoming { staging, mut rest } = self;
         let fits = fitting(staging.missing(), bytes.len());

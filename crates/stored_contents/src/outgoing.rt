@@ -1,7 +1,9 @@
 //! A content that is read.
 
-ghost use Rattle.std.specs.Prelude.{◌≡◌, ◌+◌, ◌-◌, ◌++◌, ℕ, List, All, IfOk, min, length, take, drop};
+ghost use Rattle.std.specs.Prelude.{◌≡◌, ◌≤◌, ◌+◌, ◌-◌, ◌++◌, ℕ, List, All, IfOk, min, length, take, drop};
+ghost use Rattle.b2_base.specs.Failure.{IfFault};
 ghost use Rattle.b2_base.specs.declared.extent.Extent.{Extent as Place};
+ghost use Rattle.outside_traits.specs.Causes.{Rose};
 ghost use Rattle.disk_model.specs.declared.area.DiskImage.{DiskImage};
 ghost use Rattle.blob_extents.specs.Bytes.{IsSafe};
 ghost use Rattle.blob_extents.specs.States.{pin_extent};
@@ -41,6 +43,8 @@ impl Outgoing {
         ensures count { IfOk result (λ bytes. length bytes.items
             ≡ length (take most (drop at (bytes_of zeros_of self.now)))) }
         ensures rests { IsRead (D.state disk.old) (D.state disk.new) }
+        ensures cause { IfFault result (λ _. Rose (D.faults disk.old) (D.faults disk.new)) }
+        ensures later { D.faults disk.old ≤ D.faults disk.new }
     {
         let mut bytes = Vec::new(alloc);
         let mut skip = u128::from(self.at) + u128::from(at);
@@ -82,6 +86,8 @@ fn read_part<D: Disk>(
         → (D.state disk.old).reads i
         → IfOk result (λ n. bytes.new.items ≡ bytes.old.items ++ take n (drop at m)) }
     ensures rests { IsRead (D.state disk.old) (D.state disk.new) }
+    ensures cause { IfFault result (λ _. Rose (D.faults disk.old) (D.faults disk.new)) }
+    ensures later { D.faults disk.old ≤ D.faults disk.new }
 {
     let count = part_len(pin.extent().len, at, most);
     if count == 0 {

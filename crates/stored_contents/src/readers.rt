@@ -1,8 +1,10 @@
 //! Contents that are read.
 
-ghost use Rattle.std.specs.Prelude.{◌≡◌, ◌==◌, List, [], None, map, All, Contains, IfOk, OnOk, length, take, drop};
+ghost use Rattle.std.specs.Prelude.{◌≡◌, ◌≤◌, ◌==◌, List, [], None, map, All, Contains, IfOk, OnOk, length, take, drop};
 ghost use Rattle.std.specs.List.{flat_map, position};
+ghost use Rattle.b2_base.specs.Failure.{IfFault};
 ghost use Rattle.b2_base.specs.declared.extent.Extent.{Extent as Place};
+ghost use Rattle.outside_traits.specs.Causes.{Rose};
 ghost use Rattle.blob_extents.specs.States.{pin_extent};
 ghost use Rattle.blob_extents.specs.Uses.{IsInUse};
 ghost use Rattle.stored_contents.specs.Changes.{EndsLook};
@@ -62,6 +64,8 @@ impl Contents {
         ensures count { IfOk result (λ bytes. length bytes.items
             ≡ length (take most (drop at (read_by zeros_of (outgoing_at self.now c))))) }
         ensures rests { IsRead (D.state disk.old) (D.state disk.new) }
+        ensures cause { IfFault result (λ _. Rose (D.faults disk.old) (D.faults disk.new)) }
+        ensures later { D.faults disk.old ≤ D.faults disk.new }
         ensures held { (h : Holding) → IsHeld self.now (D.state disk.old) h
             → IsHeld self.now (D.state disk.new) h }
     {

@@ -1,6 +1,6 @@
 //! Uploads: their contents begin, come, end, or are given up.
 
-ghost use Rattle.std.specs.Prelude.{◌≡◌, ◌∷◌, nat_eq, List, [], Some, None, IfOk, OnOk, MatchOption};
+ghost use Rattle.std.specs.Prelude.{◌≡◌, ◌≤◌, ◌∷◌, nat_eq, List, [], Some, None, IfOk, OnOk, MatchOption};
 ghost use Rattle.std.specs.Map.{update};
 ghost use Rattle.b2_base.specs.Failure.{IfFault};
 ghost use Rattle.b2_base.specs.declared.extent.Extent.{Extent as Place};
@@ -81,6 +81,7 @@ impl Contents {
         ensures spares { (owned : List Place) → IsRoom self.old owned
             → Spares owned (D.state disk.old) (D.state disk.new) }
         ensures cause { IfFault result (λ _. Rose (D.faults disk.old) (D.faults disk.new)) }
+        ensures later { D.faults disk.old ≤ D.faults disk.new }
     {
         let Some(incoming) = self.incoming.remove(&c) else {
             return Ok(());
@@ -99,6 +100,7 @@ impl Contents {
             (λ w. IsSealed self.new (D.state disk.new) h c (h.came c) w) }
         ensures rests { Rests (D.state disk.old) (D.state disk.new) }
         ensures cause { IfFault result (λ _. Rose (D.faults disk.old) (D.faults disk.new)) }
+        ensures later { D.faults disk.old ≤ D.faults disk.new }
     {
         if !self.is_whole(c) {
             return Ok(None);

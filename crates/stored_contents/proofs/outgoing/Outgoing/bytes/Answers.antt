@@ -14,6 +14,7 @@ loop-pin-preserved g c =
     let next : c.saturating_sub-skip.result ≡ c.loop-pin.skip - (pin_extent c.pin-item.result).len = c.saturating_sub-skip.ensures ∙ ap (λ k. c.loop-pin.skip - k) (c.from-in-loop-pin.ensures ∙ ap (λ (e : Extent). e.len) c.extent.ensures) in
     record {
       rests = read_again (g.D.Disk.state c.args.disk.now) (g.D.Disk.state c.loop-pin.disk) (g.D.Disk.state c.read_part.new.disk) c.loop-pin.invariant.rests c.in_ok-count.ensures.rests;
+      later = omega (arith, c.loop-pin.invariant.later, c.in_ok-count.ensures.later);
       bytes = λ meaning i sizes safe reads.
           part_read meaning pins c.loop-pin.pin-index c.pin-item.result c.loop-pin.skip c.saturating_sub-skip.result c.loop-pin.left c.in_ok-count.count within here (sizes (pin_extent c.pin-item.result)) c.in_ok-count.ensures.count next
           c.loop-pin.bytes.items c.read_part.new.bytes.items _

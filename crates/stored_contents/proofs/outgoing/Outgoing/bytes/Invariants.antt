@@ -1,4 +1,4 @@
-use Rattle.std.proofs.Common.{◌≡◌, ◌+◌, ℕ, List, ◌++◌, length, take, drop, map, All}
+use Rattle.std.proofs.Common.{◌≡◌, ◌≤◌, ◌+◌, ℕ, List, ◌++◌, length, take, drop, map, All}
 use Rattle.std.specs.List.{flat_map}
 use Rattle.b2_base.specs.declared.extent.Extent.{Extent}
 use Rattle.disk_model.specs.declared.area.DiskImage.{DiskImage}
@@ -10,6 +10,7 @@ use Rattle.stored_contents.proofs.outgoing.Outgoing.bytes.Given as goal
 abbrev pub invariant-loop-pin : goal.invariant-loop-pin
 invariant-loop-pin g l = record {
   rests : IsRead (g.D.Disk.state l.initial.disk) (g.D.Disk.state l.disk);
+  later : g.D.Disk.faults l.initial.disk ≤ g.D.Disk.faults l.disk;
   bytes :
       (meaning : Extent → List ℕ) (i : DiskImage)
       → ((e : Extent) → length (meaning e) ≡ e.len)
