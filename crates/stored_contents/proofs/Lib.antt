@@ -16,3 +16,4 @@ pub mod Starting
 pub mod Copying
 pub mod Empty
 pub mod Spared
+pub mod Faults

@@ -3,3 +3,4 @@ pub mod Changes
 pub mod Held
 pub mod Reads
 pub mod Sealed
+pub mod Causes

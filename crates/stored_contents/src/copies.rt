@@ -3,7 +3,10 @@
 ghost use Rattle.std.specs.Prelude.{◌≡◌, ◌+◌, ◌<◌, ◌≤◌, ◌∷◌, nat_eq, ℕ, List, [], Some, All, Contains, IfOk, OnOk, MatchOption, length, min, take, drop};
 ghost use Rattle.std.specs.List.{flat_map};
 ghost use Rattle.std.specs.Map.{update};
+ghost use Rattle.b2_base.specs.Failure.{IfFault};
 ghost use Rattle.b2_base.specs.declared.extent.Extent.{Extent as Place};
+ghost use Rattle.outside_traits.specs.Causes.{Rose};
+ghost use Rattle.stored_contents.specs.Causes.{IfAny, IsCause};
 ghost use Rattle.stored_contents.specs.Held.{Holding, IsHeld, Spares};
 ghost use Rattle.stored_contents.specs.Room.{IsRoom};
 ghost use Rattle.stored_contents.specs.declared.copies.TheConstants.{COPYING};
@@ -44,6 +47,7 @@ impl Contents {
         ensures spares { (owned : List Place) → IsRoom self.old owned
             → All (Contains owned) pieces.now
             → Spares owned (D.state disk.old) (D.state disk.new) }
+        ensures cause { IfFault result (IsCause (D.faults disk.old) (D.faults disk.new)) }
     {
         self.start_reading(alloc, disk, COPYING, pieces, at, len)?;
         let whole = self.copied(alloc, disk, COPYING, len)?;
@@ -65,6 +69,7 @@ impl Contents {
             → IfOk result (IsCopied self.new (D.state disk.new) h c (h.read c)) }
         ensures spares { (owned : List Place) → IsRoom self.old owned
             → Spares owned (D.state disk.old) (D.state disk.new) }
+        ensures cause { IfFault result (IsCause (D.faults disk.old) (D.faults disk.new)) }
     {
         if let Err(error) = self.begin(alloc, disk, c, len) {
             return Err(no_room(error));
@@ -99,6 +104,8 @@ impl Contents {
             })) }
         ensures spares { (owned : List Place) → IsRoom self.old owned
             → Spares owned (D.state disk.old) (D.state disk.new) }
+        ensures cause { IfFault result (λ _. Rose (D.faults disk.old) (D.faults disk.new)) }
+        ensures later { D.faults disk.old ≤ D.faults disk.new }
     {
         let mut left = len;
         while left > 0 {
@@ -124,14 +131,19 @@ fn least(left: u64, most: usize) -> usize
     }
 }
 
-fn no_room(error: Or<AreaEnd>) -> Or<StoreFault> {
+fn no_room(error: Or<AreaEnd>) -> Or<StoreFault>
+    ensures { (before now : ℕ) → IfAny result (IsCause before now) }
+{
     match error {
         Or::Memory => Or::Memory,
         Or::Fault(_) => Or::Fault(StoreFault::AreaEnd),
     }
 }
 
-fn disk_fault(error: Or<DiskFault>) -> Or<StoreFault> {
+fn disk_fault(error: Or<DiskFault>) -> Or<StoreFault>
+    ensures { (before now : ℕ) → IfAny error (λ _. Rose before now)
+        → IfAny result (IsCause before now) }
+{
     match error {
         Or::Memory => Or::Memory,
         Or::Fault(_) => Or::Fault(StoreFault::DiskFault),

@@ -1,4 +1,8 @@
-use Rattle.std.proofs.Common.{[], Some}
+use Rattle.std.proofs.Common.{[], Some, Option}
+use Rattle.outside_traits.specs.Causes.{Rose}
+use Rattle.stored_contents.specs.declared.uploads.Whole.{Whole}
+use Rattle.stored_contents.specs.Causes.{IsCause}
+use Rattle.stored_contents.proofs.Faults.{any_told, rose_since, told_any}
 use Rattle.stored_contents.proofs.Copying.{is_copied}
 use Rattle.stored_contents.proofs.Spared.{spares_rest_more}
 use Rattle.stored_contents.proofs.Updates.{updated_here}
@@ -30,3 +34,23 @@ pub returns-in-Err-seal-clause-spares : goal.returns-in-Err-seal-clause-spares
 returns-in-Err-seal-clause-spares g c owned room =
     spares_rest_more owned (g.D.Disk.state c.args.disk.now) (g.D.Disk.state c.copy_all.new.disk) (g.D.Disk.state c.seal.new.disk)
     (c.copy_all.ensures.spares owned (c.in_default.ensures.room owned room)) c.seal.ensures.rests
+
+pub returns-in-Err-clause-cause : goal.returns-in-Err-clause-cause
+returns-in-Err-clause-cause g c =
+    let before = g.D.Disk.faults c.args.disk.now in
+    any_told (Option Whole) c.no_room.result (IsCause before before) (c.no_room.ensures before before)
+
+pub returns-in-Err-copy_all-clause-cause : goal.returns-in-Err-copy_all-clause-cause
+returns-in-Err-copy_all-clause-cause g c =
+    let before = g.D.Disk.faults c.args.disk.now in
+    let now = g.D.Disk.faults c.copy_all.new.disk in
+    any_told (Option Whole) c.disk_fault.result (IsCause before now)
+    (c.disk_fault.ensures before now (told_any c.copy_all.result c.in-Err-copy_all.error (λ _. Rose before now) (λ _. Rose before now) (λ f is. is) c.in-Err-copy_all.is c.copy_all.ensures.cause))
+
+pub returns-in-Err-seal-clause-cause : goal.returns-in-Err-seal-clause-cause
+returns-in-Err-seal-clause-cause g c =
+    let before = g.D.Disk.faults c.args.disk.now in
+    let between = g.D.Disk.faults c.copy_all.new.disk in
+    let now = g.D.Disk.faults c.seal.new.disk in
+    any_told (Option Whole) c.disk_fault-in-Err-seal.result (IsCause before now)
+    (c.disk_fault-in-Err-seal.ensures before now (told_any c.seal.result c.in-Err-seal.error (λ _. Rose between now) (λ _. Rose before now) (λ f is. rose_since before between now c.copy_all.ensures.later is) c.in-Err-seal.is c.seal.ensures.cause))

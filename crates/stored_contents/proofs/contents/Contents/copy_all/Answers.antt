@@ -14,6 +14,7 @@ loop-left-preserved g c =
     record {
       within = omega (arith, c.loop-left.invariant.within);
       room = λ owned room. c.in_ok-piece.ensures.room owned (c.loop-left.invariant.room owned room);
+      later = omega (arith, c.loop-left.invariant.later, c.read_out.ensures.later, c.piece.ensures.later);
       spares = λ owned room.
           spares_more owned (g.D.Disk.state c.args.disk.now) (g.D.Disk.state c.read_out.new.disk) (g.D.Disk.state c.piece.new.disk)
           (spares_read_more owned (g.D.Disk.state c.args.disk.now) (g.D.Disk.state c.loop-left.disk) (g.D.Disk.state c.read_out.new.disk) (c.loop-left.invariant.spares owned room) c.read_out.ensures.rests)

@@ -9,6 +9,7 @@ abbrev pub invariant-loop-left : goal.invariant-loop-left
 invariant-loop-left g l = record {
   within : l.left ≤ l.fn.len;
   room : (owned : List Extent) → IsRoom l.fn.self owned → IsRoom l.self owned;
+  later : g.D.Disk.faults l.fn.disk ≤ g.D.Disk.faults l.disk;
   spares : (owned : List Extent) → IsRoom l.fn.self owned → Spares owned (g.D.Disk.state l.fn.disk) (g.D.Disk.state l.disk);
   held :
       (h : Holding) → IsHeld l.fn.self (g.D.Disk.state l.fn.disk) h → length (h.read l.fn.c) ≡ l.fn.len
