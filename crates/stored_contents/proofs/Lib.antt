@@ -17,3 +17,4 @@ pub mod Copying
 pub mod Empty
 pub mod Spared
 pub mod Faults
+pub mod Orders

@@ -6,9 +6,11 @@
 mod contents;
 mod copies;
 mod incoming;
+mod laws;
 mod outgoing;
 mod readers;
 mod uploads;
 
 pub use contents::{Contents, StoreFault};
+pub use laws::any_order;
 pub use uploads::Whole;
