@@ -3,10 +3,11 @@
 ghost use Rattle.std.specs.Prelude.{◌≡◌, ◌≤◌, ◌^◌, List, [], ◌++◌, IfOk, OnOk};
 ghost use Rattle.b2_base.specs.declared.extent.Extent.{Extent as Place};
 ghost use Rattle.disk_model.specs.declared.area.DiskImage.{DiskImage};
+ghost use Rattle.extent_space.specs.Room.{IsRoomOf};
 ghost use Rattle.blob_extents.specs.Bytes.{read_at};
 ghost use Rattle.blob_extents.specs.Uses.{IsInUse};
 ghost use Rattle.stored_contents.specs.Held.{Holding, IsHeld, none_held};
-ghost use Rattle.stored_contents.specs.Room.{IsRoom};
+ghost use Rattle.stored_contents.specs.Room.{IsRoom, room_of};
 ghost use Rattle.stored_contents.specs.Changes.{Releases};
 
 use crate::incoming::Incoming;
@@ -41,6 +42,7 @@ impl Contents {
     /// No contents, in an area of so many bytes.
     pub fn new<D: Disk>(alloc: Global, _disk: &D, limit: u64) -> Result<Contents, Memory>
         requires { limit ≤ 2 ^ 62 }
+        ensures none { IfOk result (λ t. IsRoomOf limit [] (room_of t)) }
         ensures room { IfOk result (λ t. IsRoom t []) }
         ensures held { (i : DiskImage) → (D.state _disk.now).reads i
             → IfOk result (λ t. IsHeld t (D.state _disk.now) (none_held (read_at i))) }

@@ -2,13 +2,14 @@
 
 ghost use Rattle.std.specs.Prelude.{◌≡◌, ◌≤◌, ◌∷◌, nat_eq, List, [], Some, None, IfOk, OnOk, MatchOption};
 ghost use Rattle.std.specs.Map.{update};
+ghost use Rattle.std.specs.Option.{option_map};
 ghost use Rattle.b2_base.specs.Failure.{IfFault};
 ghost use Rattle.b2_base.specs.declared.extent.Extent.{Extent as Place};
 ghost use Rattle.outside_traits.specs.Causes.{Rose};
 ghost use Rattle.disk_model.specs.State.{Rests};
 ghost use Rattle.extent_space.specs.Room.{extent_for};
 ghost use Rattle.stored_contents.specs.Held.{Holding, IsHeld, Spares, came_length, is_all, with_bytes};
-ghost use Rattle.stored_contents.specs.Room.{IsRoom, incoming_at, room_of};
+ghost use Rattle.stored_contents.specs.Room.{IsRoom, extent_of, incoming_at, room_of};
 ghost use Rattle.stored_contents.specs.Sealed.{IsSealed};
 
 use crate::contents::Contents;
@@ -42,6 +43,8 @@ impl Contents {
     ) -> Result<(), Or<AreaEnd>>
         ensures full { incoming_at self.old c ≡ None
             → IfFault result (λ _. extent_for (room_of self.old) len ≡ None) }
+        ensures place { incoming_at self.old c ≡ None → OnOk result
+            (option_map extent_of (incoming_at self.new c) ≡ extent_for (room_of self.old) len) }
         ensures room { (owned : List Place) → IsRoom self.old owned
             → OnOk result (IsRoom self.new owned) }
         ensures held { (h : Holding) → IsHeld self.old (D.state _disk.now) h

@@ -1,5 +1,6 @@
 use Rattle.std.proofs.Common.{◌≡◌, nat_eq, [], Some, None, Err, ap, sym, subst, ◌∙◌, refl}
 use Rattle.std.specs.Map.{update}
+use Rattle.std.specs.Option.{option_map}
 use Rattle.std.proofs.lemmas.Result.{err_from_is_err_and}
 use Rattle.b2_base.proofs.Faults.{IfFault-handed}
 use Rattle.extent_space.specs.Room.{extent_for}
@@ -7,7 +8,7 @@ use Rattle.blob_extents.specs.Uses.{Uses}
 use Rattle.stored_contents.specs.declared.contents.Contents.{Contents}
 use Rattle.stored_contents.specs.declared.incoming.Incoming.{Incoming}
 use Rattle.stored_contents.specs.Held.{IsHeld}
-use Rattle.stored_contents.specs.Room.{IsRoom}
+use Rattle.stored_contents.specs.Room.{IsRoom, extent_of}
 use Rattle.stored_contents.proofs.Updates.{set_by_map, updated_twice}
 use Rattle.stored_contents.proofs.Rooms.{OnlyUpload, room_begun}
 use Rattle.stored_contents.proofs.Holdings.{at_fault, held_came, held_still, none_came}
@@ -48,3 +49,11 @@ returns-clause-held g c h held =
     (held_still c.lose.new.self new c.args.c (Some came) d (record h { came = update nat_eq h.came c.args.c None }) (Some (record { len = c.args.len; bytes = [] })) only (returns-clause-room g c h.owned held.room)
     (none_came d came c.args.len held.image held.given c.in_ok-staging.ensures.len c.in_ok-staging.ensures.none c.new.ensures.items)
     lost)
+
+pub returns-clause-place : goal.returns-clause-place
+returns-clause-place g c none =
+    let new : Contents = record { blobs = c.begin.new.self; incoming = c.insert.new.self; outgoing = c.lose.new.self.outgoing } in
+    let came : Incoming = record { staging = c.in_ok-staging.staging; rest = c.new.result } in
+    let set = set_by_map c.lose.new.self new c.args.c (Some came) c.in_ok-insert.ensures.updates in
+    let same : c.lose.new.self.blobs ≡ c.args.self.now.blobs = c.in_ok-lose.ensures.none none in
+    ap (option_map extent_of) set.here ∙ sym c.in_ok-staging.ensures.place ∙ ap (λ (u : Uses). extent_for u.room c.args.len) same
