@@ -1,6 +1,6 @@
 //! The room of contents, and who holds extents in it.
 
-ghost use Rattle.std.specs.Prelude.{◌≡◌, ◌+◌, ◌^◌, ◌≤◌, ◌++◌, ℕ, List, [], ◌∷◌, length, map, All, Contains, IsOk, IfOk, OnOk, OnErr, IfErr, Some, None};
+ghost use Rattle.std.specs.Prelude.{◌≡◌, ◌+◌, ◌^◌, ◌≤◌, ◌++◌, ℕ, List, [], ◌∷◌, length, map, All, Contains, IsOk, IfOk, OnOk, OnErr, IfErr, Some, None, IsTrue, ◌↔◌, MatchOption};
 ghost use Rattle.std.specs.Bool.{OnTrue, OnFalse};
 ghost use Rattle.std.specs.List.{AllPairs};
 ghost use Rattle.b2_base.specs.Failure.{IfFault};
@@ -109,6 +109,38 @@ impl Blobs {
         ensures always { IsOk result }
     {
         Ok(s.keep())
+    }
+
+    /// Whether the extent is in use as a whole. One of no bytes is where it stands at the front of the
+    /// area.
+    pub fn is_in_use(&self, e: Extent) -> bool
+        ensures { IsTrue result ↔ IsInUse self.now e }
+    {
+        if e.len > 0 {
+            return self.space.is_taken(e);
+        }
+        e.at == 0
+    }
+
+    /// The handle of a content, for an owner that knows where it stands and keeps no handles. None where
+    /// the extent is not in use.
+    pub fn kept(&self, e: Extent) -> Option<Kept>
+        ensures { MatchOption result (IsInUse self.now e → ⊥)
+            (λ k. IsInUse self.now e × (kept_extent k ≡ e)) }
+    {
+        // That the room is tidy, and so ends before its limit, is known from here on.
+        let _ = self.space.end();
+        if !self.is_in_use(e) {
+            return None;
+        }
+        Some(Kept::new(e))
+    }
+
+    /// Whether the content is looked at, by this look or by another.
+    pub fn is_pinned(&self, p: &Pin) -> bool
+        ensures { IsTrue result ↔ Contains self.now.pinned (pin_extent p.now) }
+    {
+        self.pinned.contains(&p.extent())
     }
 
     /// Gives back the extent of a content that nobody wants. At `Err` it stays in use.

@@ -74,6 +74,13 @@ impl Staging {
         self.extent.len - self.filled
     }
 
+    /// How many bytes came.
+    pub fn filled(&self) -> u64
+        ensures { result ≡ staging_filled self.now }
+    {
+        self.filled
+    }
+
     /// Writes a piece after those that came, and keeps the digest. Nothing is buffered.
     pub fn push<D: Disk>(
         mut self,
@@ -98,6 +105,7 @@ impl Staging {
             → Apart (staging_extent self) e → length m ≤ e.len
             → ReadsAt (D.state disk.old) e m → ReadsAt (D.state disk.new) e m }
         ensures cause { OnErr result (Rose (D.faults disk.old) (D.faults disk.new)) }
+        ensures later { D.faults disk.old ≤ D.faults disk.new }
     {
         let wrote = disk.write_at(Area::Blobs, self.extent.at + self.filled, piece);
         if wrote.is_err() {
@@ -120,6 +128,7 @@ impl Staging {
             → IsSafe (D.state disk.new) (staging_extent self) m) }
         ensures rests { Rests (D.state disk.old) (D.state disk.new) }
         ensures cause { OnErr result (Rose (D.faults disk.old) (D.faults disk.new)) }
+        ensures later { D.faults disk.old ≤ D.faults disk.new }
     {
         if disk.sync(Area::Blobs).is_err() {
             return Err((self.spend(), DiskFault));
@@ -188,6 +197,13 @@ impl Spent {
     {
         self.extent
     }
+
+    /// Where it stands.
+    pub fn extent(&self) -> Extent
+        ensures { result ≡ spent_extent self.now }
+    {
+        self.extent
+    }
 }
 
 impl Kept {
@@ -248,6 +264,7 @@ impl Pin {
         ensures same { OnErr result (buf.new ≡ buf.old) }
         ensures rests { Rests (D.state disk.old) (D.state disk.new) }
         ensures cause { OnErr result (Rose (D.faults disk.old) (D.faults disk.new)) }
+        ensures later { D.faults disk.old ≤ D.faults disk.new }
     {
         Ok(disk.read(Area::Blobs, self.extent.at + at, buf)?)
     }

@@ -7,5 +7,6 @@ mod Returns
 mod Rooms
 pub mod Runs
 pub mod Takes
+mod Told
 pub mod Used
 mod Views

@@ -40,6 +40,11 @@ IsEndOfFree starts b to =
     ((from : ℕ) × (starts to ≡ Some from) × (from ≤ b) × (b < to))
     ⊎ ((to ≡ b) × IsInNone starts b)
 
+-- `n` is the first byte from `at` on that lies in one of them, else the end
+pub record IsFreeFrom (starts : ℕ → Option ℕ) (at end n : ℕ) : Type 0 where
+  pub before : (b : ℕ) → at ≤ b → b < n → IsInNone starts b
+  pub here : (n ≡ end) ⊎ ((to from : ℕ) × (starts to ≡ Some from) × (from ≤ n) × (n < to) × (at ≤ n) × ((n ≡ at) ⊎ (n ≡ from)))
+
 -- the hole from `from` up to `to` is added, where that has a byte
 pub record AddsHole (old new : ℕ → Option ℕ) (from to : ℕ) : Type 0 where
   pub others : (q : ℕ) → q ≢ to → new q ≡ old q

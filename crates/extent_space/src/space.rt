@@ -1,13 +1,13 @@
 //! The holes of an area and its end.
 
-ghost use Rattle.std.specs.Prelude.{◌≡◌, ℕ, ◌+◌, ◌^◌, ◌<◌, ◌≤◌, ◌⊎◌, Some, None, All, IfOk, IfSome, OnOk, OnErr, MatchOption};
+ghost use Rattle.std.specs.Prelude.{◌≡◌, ℕ, ◌+◌, ◌^◌, ◌<◌, ◌≤◌, ◌⊎◌, Some, None, All, IfOk, IfSome, IsTrue, ◌↔◌, OnOk, OnErr, MatchOption};
 ghost use Rattle.std.specs.List.{AllPairs};
 ghost use Rattle.std.specs.Option.{unwrap_or};
 ghost use Rattle.std.specs.Ordering.{nat_cmp};
 ghost use Rattle.std.specs.BTreeMap.{get, IsOrdered, IsUnchanged};
 ghost use Rattle.b2_base.specs.Failure.{IfFault};
 ghost use Rattle.b2_base.specs.declared.extent.Extent.{Extent as Place};
-ghost use Rattle.extent_space.specs.Holes.{AddsHole, AreApart, IsCut, IsEndOfFree, IsInNone, front_with};
+ghost use Rattle.extent_space.specs.Holes.{AddsHole, AreApart, AreHoles, IsCut, IsEndOfFree, IsFreeFrom, IsInNone, front_with};
 ghost use Rattle.extent_space.specs.Room.{Apart, GivesBack, HasFree, IsApartFromTaken, IsFilled, IsFree, IsPlaced, IsRoomOf, IsTaken, IsTidy, IsUsed, IsWhole, Takes, extent_for, first_fit, rounded};
 
 use b2_base::{Extent, Memory, Or};
@@ -102,6 +102,23 @@ impl Space {
         };
         self.occupy(at, at + room)?;
         Ok(Extent { at, len })
+    }
+
+    /// Whether the extent is in use as a whole. One of no bytes always is.
+    pub fn is_taken(&self, e: Extent) -> bool
+        ensures { IsTrue result ↔ IsTaken self.now e }
+    {
+        let free = free_from(&self.holes, e.at, self.end);
+        if e.len == 0 {
+            return true;
+        }
+        if e.at % BLOCK != 0 {
+            return false;
+        }
+        if free <= e.at {
+            return false;
+        }
+        e.len <= free - e.at
     }
 
     /// Gives back what was taken.
@@ -209,6 +226,18 @@ fn end_of_free(holes: &BTreeMap<u64, u64>, at: u64) -> u64
     match hole_at(holes, at) {
         Some((to, _)) => to,
         None => at,
+    }
+}
+
+// The first byte from this one on that lies in a hole, else the end.
+fn free_from(holes: &BTreeMap<u64, u64>, at: u64, end: u64) -> u64
+    requires { (limit : ℕ) × AreHoles (get nat_cmp holes.now) end limit }
+    ensures { IsFreeFrom (get nat_cmp holes.now) at end result }
+{
+    match holes.range((Bound::Excluded(at), Bound::Unbounded)).next() {
+        Some((_, from)) if *from < at => at,
+        Some((_, from)) => *from,
+        None => end,
     }
 }
 

@@ -1,8 +1,10 @@
-//! Tests of the disk, of extents, of the index of versions, of its pages and of passes over it, by their public calls.
+//! Tests of the disk, of extents, of the contents of a store, of the index of versions, of its pages and of passes over it, by their public calls.
 #![tactic(auto)]
 
 #[cfg(test)]
 mod blobs;
+#[cfg(test)]
+mod contents;
 #[cfg(test)]
 mod disk;
 #[cfg(test)]
