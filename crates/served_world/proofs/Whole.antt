@@ -20,7 +20,8 @@ use Rattle.served_world.specs.Replies.{Reads, Reply, told, Outcome, made, Begins
 use Rattle.served_world.specs.World.{Turn, Conn, World, start, with_conn, closing, new_conn, opened, pending_of, nothing_made, conn_read, conn_held, after_piece, IsPiece, closed, with_loss, gone, handed, conn_after, GoesOn, IsAfterSend, IsSent, IsReady, Happens, Run}
 use Rattle.served_world.specs.Laws.{IsComing, IsUnfinished}
 use Rattle.served_world.proofs.Conns.{changed}
-use Rattle.flight_laws.proofs.Flights.{under_way, flights_of, asked_flights, began, ended, lost}
+use Rattle.flight_laws.proofs.Flights.{under_way, flights_of, asked_flights}
+use Rattle.flight_laws.proofs.Laws.{begun_or_answered, begun_keeps, ended_answered, ended_here, ended_keeps, lost_here, lost_keeps}
 
 -- ---- small things
 
@@ -70,8 +71,12 @@ record HasBegun (old : List Flight) (c : ℕ) (m : Outcome) : Type 0 where
 module _ (R : Reads) (reading c : ℕ) where
   begin_fits : (head : Head) (o p : Outcome) → under_way (flights_of o.machine) c ≡ false → Begins R reading c head o p → HasBegun (flights_of o.machine) c p
   begin_fits head o p free (token, u, read, is) =
-      let b = began of_bytes o.machine reading c token u free in
-      subst (HasBegun (flights_of o.machine) c) (sym is) (record { here = b.here ∙ told_none false (answer_to of_bytes o.machine (begins reading c token u)); others = b.others })
+      subst (HasBegun (flights_of o.machine) c) (sym is) (
+      record {
+        here = begun_or_answered of_bytes o.machine reading c token u free ∙ told_none false (answer_to of_bytes o.machine (begins reading c token u));
+        others = λ d apart. ap is_some (begun_keeps of_bytes o.machine reading c token u d apart);
+      }
+      )
 
   once_fits : (head : Head) (started : Bool) (o p : Outcome) → under_way (flights_of o.machine) c ≡ started → o.reply ≡ None → BeginsOnce R reading c started head o p → HasBegun (flights_of o.machine) c p
   once_fits head true o p busy none is = subst (HasBegun (flights_of o.machine) c) (sym is) (record { here = busy ∙ ap is_none (sym none); others = λ d apart. refl })
@@ -94,13 +99,12 @@ module _ (R : Reads) (reading c : ℕ) where
           )
       by None none (token, u, read, same) =
           let s = ends reading c (body_of u body) in
-          let e = ended of_bytes m.machine reading c (body_of u body) (b.here ∙ ap is_none none) in
           let q = made head.request.stay s m in
-          let gone = told_some head.request.stay (answer_to of_bytes m.machine s) e.told in
+          let gone = told_some head.request.stay (answer_to of_bytes m.machine s) (ended_answered of_bytes m.machine reading c (body_of u body) (b.here ∙ ap is_none none)) in
           subst (Fits old c (complete head body rest)) (sym same) (
           record {
-            here = e.here ∙ sym (and_right uploads (is_none q.reply) gone);
-            others = λ d apart. e.others d apart ∙ b.others d apart;
+            here = ap is_some (ended_here of_bytes m.machine reading c (body_of u body)) ∙ sym (and_right uploads (is_none q.reply) gone);
+            others = λ d apart. ap is_some (ended_keeps of_bytes m.machine reading c (body_of u body) d apart) ∙ b.others d apart;
             replied = replied_by q.reply gone (complete head body rest);
           }
           )
@@ -222,8 +226,8 @@ module _ (R : Reads) where
   loss_fit : (reading : ℕ) (w : World) (c : ℕ) (k : Conn) (b : Bool) → OthersFit w c → under_way (flights_of w.machine) c ≡ b → AllFit (with_loss reading c b (closed w c k))
   loss_fit reading w c k false others free = set_fit w c None others (free, tt)
   loss_fit reading w c k true others busy =
-      let l = lost of_bytes w.machine reading c busy in
-      changed (IsFit (flights_of (step of_bytes w.machine (loses reading c)))) w.conns c None (l.here, tt) (λ d apart. (l.others d apart ∙ (others d apart).0, (others d apart).1))
+      changed (IsFit (flights_of (step of_bytes w.machine (loses reading c)))) w.conns c None (ap is_some (lost_here of_bytes w.machine reading c), tt)
+      (λ d apart. (ap is_some (lost_keeps of_bytes w.machine reading c d apart) ∙ (others d apart).0, (others d apart).1))
 
   gone_fit : (reading : ℕ) (w : World) (c : ℕ) (k : Conn) → OthersFit w c → under_way (flights_of w.machine) c ≡ uploads_at (Some k) → AllFit (gone reading w c k)
   gone_fit reading w c k others here = loss_fit reading w c k (is_uploading (Some k.talk)) others here
