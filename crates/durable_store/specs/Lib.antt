@@ -1,0 +1,6 @@
+pub mod Steps
+pub mod Owned
+pub mod Lengths
+pub mod Store
+pub mod Uploads
+pub mod Ends
