@@ -1,5 +1,4 @@
 mod Begins
-mod Ended
 mod Kept
 mod Lifts
 mod Losses

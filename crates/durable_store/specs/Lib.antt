@@ -3,4 +3,3 @@ pub mod Owned
 pub mod Lengths
 pub mod Store
 pub mod Uploads
-pub mod Ends

@@ -2,7 +2,6 @@
 //! bytes.
 #![tactic(auto)]
 
-mod ends;
 mod lengths;
 mod moments;
 mod readers;
