@@ -27,7 +27,7 @@ use Rattle.durable_store.specs.Store.{Came, IsConn, IsStore, IsUnderWay, Read}
 use Rattle.durable_store.specs.Uploads.{IsBegun, begun_on}
 use Rattle.durable_store.specs.declared.store.Store.{Store}
 use Rattle.durable_store.proofs.Lifts.{begun}
-use Rattle.durable_store.proofs.UnderWay.{Sets, upload_set}
+use Rattle.durable_store.proofs.UnderWay.{upload_set}
 
 -- a function that is set to what it is
 same_at : {X : Type 0} (f : ℕ → Option X) (c e : ℕ) (x : Option X) → x ≡ f c → f e ≡ update nat_eq f c x e

@@ -1,26 +1,22 @@
 -- A step of the machine over extents is one of the machine over bytes, where each extent stands for bytes of its
 -- length.
-use Rattle.std.proofs.Common.{◌≡◌, ℕ, Bool, true, false, List, [], Option, Some, None, option_map, unwrap_or, length, if◌then◌else◌, refl, sym, ap, subst, ◌∙◌}
+use Rattle.std.proofs.Common.{◌≡◌, ℕ, List, [], Option, Some, None, option_map, length, if◌then◌else◌, refl, sym, ap, ◌∙◌}
 use Rattle.std.specs.Option.{is_some}
 use Rattle.b2_base.specs.declared.extent.Extent.{Extent}
 use Rattle.b2_types.specs.declared.answer.AnswerOf.{AnswerOf}
-use Rattle.b2_types.specs.declared.answer.AnswerOf.TheVariants as answer
-use Rattle.b2_types.specs.declared.call.Call.{Call}
-use Rattle.b2_types.specs.declared.call.Call.TheVariants as call
 use Rattle.b2_types.specs.declared.fault.Fault.{Fault}
 use Rattle.b2_types.specs.declared.key.Flight.{Flight}
 use Rattle.b2_types.specs.declared.upload.UploadCall.{UploadCall}
-use Rattle.b2_model.specs.Ask.{ask}
 use Rattle.b2_model.specs.Body.{Body}
 use Rattle.b2_model.specs.Contents.{answer_by, body_by, state_by}
 use Rattle.b2_model.specs.State.{State}
 use Rattle.b2_model.specs.UploadSteps.{Begun, begin, end, flight_of, without_flight}
-use Rattle.b2_model.specs.Run.{Progress, Step, answer_to, asks, begin_step, begins, end_step, ends, loses, moment, of_bytes, refusal_of, start_of, state_after, step, with_end, with_state}
+use Rattle.b2_model.specs.Run.{Progress, Step, answer_to, begin_step, begins, end_step, ends, loses, moment, of_bytes, refusal_of, start_of, state_after, step, with_end, with_state}
 use Rattle.machine_laws.proofs.Moments.{answer_state}
-use Rattle.contents_steps.specs.Copies.{CopiesAlong, StandsFor, copy_made}
+use Rattle.contents_steps.specs.Copies.{StandsFor}
 use Rattle.contents_steps.proofs.Stands.{answer_stands, step_stands}
 use Rattle.new_versions.specs.Decided.{extent_len}
-use Rattle.core_decisions.specs.Decided.{AreWords, ComesTo, Copies, IsNoCopy, answering, at_extents}
+use Rattle.core_decisions.specs.Decided.{answering, at_extents}
 use Rattle.core_decisions.proofs.Asked.{no_copy}
 use Rattle.durable_store.specs.Steps.{HasMade, start_at}
 
@@ -46,14 +42,13 @@ module _ (f : Extent → List ℕ) (sizes : (e : Extent) → length (f e) ≡ e.
       let K = at_extents no_copy in
       let s : Step Extent = begins reading conn token u in
       let made = step_stands f K of_bytes sizes here P s tt stands in
-      let b : Begun Extent = begin_step here reading conn token u in
-      (
+      let b : Begun Extent = begin_step here reading conn token u in (
         made.state
-        ∙ ap (state_by f) (answer_state (answer_to K here s) (state_after K here s) ∙ ap (λ o. (if is_some o then here else with_state here b.state).state) none ∙ ap (λ (x : Begun Extent). x.state) (sym begun_is)),
+            ∙ ap (state_by f) (answer_state (answer_to K here s) (state_after K here s) ∙ ap (λ o. (if is_some o then here else with_state here b.state).state) none ∙ ap (λ (x : Begun Extent). x.state) (sym begun_is)),
         answer_stands f K of_bytes sizes here P s tt stands
-        ∙ ap (λ o. option_map (answer_by f) (if is_some o then None else refusal_of b.fault)) none
-        ∙ ap (λ (x : Begun Extent). option_map (answer_by f) (refusal_of x.fault)) (sym begun_is)
-        ∙ refusal_by f fault,
+            ∙ ap (λ o. option_map (answer_by f) (if is_some o then None else refusal_of b.fault)) none
+            ∙ ap (λ (x : Begun Extent). option_map (answer_by f) (refusal_of x.fault)) (sym begun_is)
+            ∙ refusal_by f fault,
       )
 
   -- an upload ends that is under way

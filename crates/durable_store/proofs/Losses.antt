@@ -1,5 +1,5 @@
 -- An upload is lost with its connection.
-use Rattle.std.proofs.Common.{◌≡◌, ℕ, nat_eq, List, Option, Some, None, refl, sym, ap, subst, ◌∙◌}
+use Rattle.std.proofs.Common.{◌≡◌, ℕ, nat_eq, List, Some, None, refl, sym, ap, subst, ◌∙◌}
 use Rattle.std.specs.Map.{update}
 use Rattle.b2_base.specs.declared.extent.Extent.{Extent}
 use Rattle.b2_types.specs.declared.key.Flight.{Flight}
@@ -13,7 +13,7 @@ use Rattle.contents_agree.specs.ContentsOf.{contents_of}
 use Rattle.stored_contents.specs.declared.contents.Contents.{Contents}
 use Rattle.stored_contents.specs.Held.{Holding, IsHeld}
 use Rattle.durable_store.specs.Steps.{start_at}
-use Rattle.durable_store.specs.Owned.{IsKept, owning}
+use Rattle.durable_store.specs.Owned.{owning}
 use Rattle.durable_store.specs.Store.{Came, IsAfter, IsStore, IsUnderWay, Read}
 use Rattle.durable_store.specs.declared.store.Store.{Store}
 use Rattle.durable_store.proofs.Lifts.{lost}

@@ -4,7 +4,6 @@ use Rattle.disk_model.specs.State.{DiskState}
 use Rattle.b2_model.specs.State.{State}
 use Rattle.stored_contents.specs.declared.contents.Contents.{Contents}
 use Rattle.stored_contents.specs.Held.{IsHeld, with_read}
-use Rattle.durable_store.specs.Owned.{IsKept}
 use Rattle.durable_store.specs.Store.{Came, IsStore, Read}
 use Rattle.durable_store.specs.declared.store.Store.{Store}
 

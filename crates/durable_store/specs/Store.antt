@@ -1,6 +1,5 @@
 -- What a store is, to those above it: the version machine over bytes.
 use Rattle.std.specs.Prelude.{◌≡◌, ◌<◌, ℕ, List, [], Option, Some, None}
-use Rattle.b2_base.specs.declared.extent.Extent.{Extent}
 use Rattle.b2_types.specs.declared.key.Flight.{Flight}
 use Rattle.disk_model.specs.State.{DiskState}
 use Rattle.b2_model.specs.Contents.{state_by}

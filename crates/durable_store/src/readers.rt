@@ -27,7 +27,9 @@ impl Store {
             → IsStore self.now (D.state disk.old) M came read
             → IsStore self.now (D.state disk.new) M came read }
     {
-        let bytes = self.contents.read_out(alloc, disk, c.get() as u64, from, most)?;
+        let bytes = self
+            .contents
+            .read_out(alloc, disk, c.get() as u64, from, most)?;
         Ok(bytes)
     }
 

@@ -1,4 +1,4 @@
-use Rattle.std.proofs.Common.{[], refl, sym, ap, ◌∙◌, arith}
+use Rattle.std.proofs.Common.{[], arith}
 use Rattle.durable_store.proofs.Begins.{busy_begin, fault_there, free_after_pass, is_free, is_there, no_fault, refused, taken}
 use Rattle.durable_store.proofs.store.Store.begin.Goals as goal
 

@@ -1,4 +1,4 @@
-use Rattle.std.proofs.Common.{[], refl, sym, ap, not}
+use Rattle.std.proofs.Common.{[], sym, ap, not}
 use Rattle.durable_store.proofs.Begins.{is_there}
 use Rattle.durable_store.proofs.Losses.{lost_upload}
 use Rattle.durable_store.proofs.store.Store.lost.Goals as goal

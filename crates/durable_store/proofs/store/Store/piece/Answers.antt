@@ -1,4 +1,4 @@
-use Rattle.std.proofs.Common.{ℕ, refl, sym, subst, ap, nat_eq, arith}
+use Rattle.std.proofs.Common.{ℕ, refl, ap, nat_eq, arith}
 use Rattle.std.specs.Map.{update}
 use Rattle.stored_contents.specs.Held.{with_bytes}
 use Rattle.durable_store.specs.Uploads.{with_more}
