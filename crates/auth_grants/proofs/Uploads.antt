@@ -1,5 +1,5 @@
 -- The uploads under way of a state, and the tokens that they are on.
-use Rattle.std.proofs.Common.{◌≡◌, ◌≢◌, ℕ, List, [], ◌∷◌, map, filter, find, true, false, Bool, not, nat_lt, ◌==◌, All, Option, Some, None, IsSome, is_some, cond, refl, sym, ap, ◌∙◌, bytes_eq, option_map, true≢false}
+use Rattle.std.proofs.Common.{◌≡◌, ◌≢◌, ℕ, List, [], ◌∷◌, map, filter, find, true, false, Bool, not, ◌==◌, Option, Some, None, IsSome, is_some, cond, refl, sym, ap, ◌∙◌, bytes_eq, option_map, true≢false}
 use Rattle.std.specs.List.{list_any}
 use Rattle.std.proofs.lemmas.List.Elements.{All-head, All-tail}
 use Rattle.std.specs.Cmp.Lexicographic.{bytes_decides}
@@ -11,8 +11,9 @@ use Rattle.b2_model.specs.State.{State}
 use Rattle.b2_model.specs.Lists.{put_by}
 use Rattle.b2_model.specs.LiveGrant.{grant_at}
 use Rattle.b2_model.specs.UploadSteps.{busy, new_flight, without_flight}
+use Rattle.flight_laws.proofs.Finds.{put_found, put_other}
 use Rattle.auth_grants.specs.declared.held.Held.{Held}
-use Rattle.auth_grants.specs.Tokens.{tokens, held_in, with_conn, with_flight_in, with_flight, flight_at, flight_on, held_of, tokens_of, AreOnToken}
+use Rattle.auth_grants.specs.Tokens.{tokens, with_conn, with_flight_in, with_flight, flight_at, flight_on, held_of, tokens_of, AreOnToken}
 
 differ : (a b : List ℕ) (r : Bool) → bytes_eq a b ≡ r → a ≢ b → r ≡ false
 differ a b true is other = absurd (other ((bytes_decides a b).0 is))
@@ -49,25 +50,6 @@ pub is_busy : (M : State Extent) (text : List ℕ) → IsSome (grant_at M text) 
 is_busy M text some = busy_all text M.flights ∙ ap is_some (sym (at_all M text M.grants some))
 
 -- ---- a begin
-
-put_step : (p : Flight → Bool) (x y : Flight) (ys : List Flight) (r s : Bool) → nat_lt x.conn y.conn ≡ r → p y ≡ s → p x ≡ true → find p (y ∷ ys) ≡ None
-    → (find p ys ≡ None → find p (put_by (λ f. f.conn) x ys) ≡ Some x) → find p (put_by (λ f. f.conn) x (y ∷ ys)) ≡ Some x
-put_step p x y ys true s before y_is is none rest = rw (before, is) refl
-put_step p x y ys false true before y_is is none rest = let some : Some y ≡ None = rw y_is at none in absurd (true≢false (ap is_some some))
-put_step p x y ys false false before y_is is none rest = rw (before, y_is) (rest (rw y_is at none))
-
-put_found : (p : Flight → Bool) (x : Flight) (fs : List Flight) → p x ≡ true → find p fs ≡ None → find p (put_by (λ f. f.conn) x fs) ≡ Some x
-put_found p x [] is none = rw is refl
-put_found p x (y ∷ ys) is none = put_step p x y ys _ _ refl refl is none (put_found p x ys is)
-
-pass_step : (p : Flight → Bool) (x y : Flight) (ys : List Flight) (r : Bool) → nat_lt x.conn y.conn ≡ r → p x ≡ false
-    → find p (put_by (λ f. f.conn) x ys) ≡ find p ys → find p (put_by (λ f. f.conn) x (y ∷ ys)) ≡ find p (y ∷ ys)
-pass_step p x y ys true before is rest = rw (before, is) refl
-pass_step p x y ys false before is rest = rw before (ap (cond (p y) (Some y)) rest)
-
-put_other : (p : Flight → Bool) (x : Flight) (fs : List Flight) → p x ≡ false → find p (put_by (λ f. f.conn) x fs) ≡ find p fs
-put_other p x [] is = rw is refl
-put_other p x (y ∷ ys) is = pass_step p x y ys _ refl is (put_other p x ys is)
 
 no_find : (o : Option Flight) → option_map (λ f. f.conn) o ≡ None → o ≡ None
 no_find None is = refl
