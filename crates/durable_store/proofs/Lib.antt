@@ -1,4 +1,5 @@
 mod Begins
+mod Ended
 mod Kept
 mod Lifts
 mod Losses

@@ -3,3 +3,5 @@ pub mod Owned
 pub mod Lengths
 pub mod Store
 pub mod Uploads
+pub mod Asks
+pub mod Ends

@@ -2,11 +2,14 @@
 //! bytes.
 #![tactic(auto)]
 
+mod asks;
+mod ends;
 mod lengths;
 mod moments;
 mod readers;
 mod store;
 mod uploads;
 
+pub use asks::Reply;
 pub use store::Store;
 pub use stored_contents::StoreFault;
