@@ -4,4 +4,5 @@ pub mod Lengths
 pub mod Store
 pub mod Uploads
 pub mod Asks
+pub mod Carried
 pub mod Ends

@@ -3,6 +3,7 @@
 #![tactic(auto)]
 
 mod asks;
+mod copies;
 mod ends;
 mod lengths;
 mod moments;
