@@ -3,5 +3,6 @@ mod Ended
 mod Kept
 mod Lifts
 mod Losses
+mod Passed
 mod ReadFor
 mod UnderWay

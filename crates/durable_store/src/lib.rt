@@ -7,6 +7,7 @@ mod copies;
 mod ends;
 mod lengths;
 mod moments;
+mod openings;
 mod readers;
 mod store;
 mod uploads;
