@@ -1,5 +1,5 @@
 -- What the end of an upload makes of the state over extents.
-use Rattle.std.proofs.Common.{◌≡◌, ℕ, List, [], ◌∷◌, ◌++◌, Option, Some, ap, sym, ◌∙◌, refl, subst}
+use Rattle.std.proofs.Common.{◌≡◌, ℕ, List, [], ◌∷◌, Option, Some, Result, Ok, Err, IfOk, ap, sym, ◌∙◌, subst}
 use Rattle.b2_base.specs.declared.extent.Extent.{Extent}
 use Rattle.b2_types.specs.declared.answer.AnswerOf.{AnswerOf}
 use Rattle.b2_types.specs.declared.key.Flight.{Flight}
@@ -8,24 +8,32 @@ use Rattle.b2_model.specs.Body.{Body}
 use Rattle.b2_model.specs.Changes.{after_record}
 use Rattle.b2_model.specs.State.{State}
 use Rattle.b2_model.specs.UploadSteps.{flight_of, without_flight}
-use Rattle.sound_states.proofs.Found.{found_has}
-use Rattle.sound_states.specs.Sound.{IsSound}
-use Rattle.contents_agree.specs.ContentsOf.{brought, contents_of}
 use Rattle.core_decisions.specs.declared.decision.Decision.{Decision}
 use Rattle.core_decisions.specs.declared.decision.Decision.TheVariants as decision
 use Rattle.core_decisions.specs.Decided.{answering}
 use Rattle.core_uploads.specs.Uploads.{IsEnd, IsEndWritable}
 use Rattle.durable_store.specs.Ends.{IsDecided}
+use Rattle.durable_store.specs.declared.store.Store.{Store}
 
-module _ (M : State Extent) (t c : ℕ) (f : Flight) (body : Body Extent) (same : f.conn ≡ c) where
-  pub replied : (told : AnswerOf Extent) → IsEnd M t f body (decision.Reply told) → IsDecided M t f body (without_flight M t c) told
-  unfolding IsEnd
-  replied told ended = λ words. ended.1 words ∙ ap (λ (k : ℕ). answering (without_flight M t k) told words) same
+from_both : {X E : Type 0} (r : Result X E) (P Q R : X → Type 0) → ((x : X) → P x → Q x → R x) → IfOk r P → IfOk r Q → IfOk r R
+from_both (Ok x) P Q R by first second = by x first second
+from_both (Err e) P Q R by first second = tt
 
-  pub recorded : (r : RecordOf Extent) (told : AnswerOf Extent) → IsEnd M t f body (decision.Write r told) → IsDecided M t f body (after_record (without_flight M t c) r) told
-  unfolding IsEnd
-  recorded r told ended = λ words. ended.1 words ∙ ap (λ (k : ℕ). answering (after_record (without_flight M t k) r) told words) same
+-- a store and an answer that are told apart
+pub decided_by : {E : Type 0} (M : State Extent) (t : ℕ) (f : Flight) (body : Body Extent) (r : Result (Store × AnswerOf Extent) E) (N : State Extent) (told : AnswerOf Extent) → IsDecided M t f body N told
+    → IfOk r (λ x. x.0.core ≡ N) → IfOk r (λ x. x.1 ≡ told) → IfOk r (λ x. IsDecided M t f body x.0.core x.1)
+decided_by M t f body r N told is state answer = from_both r (λ x. x.0.core ≡ N) (λ x. x.1 ≡ told) (λ x. IsDecided M t f body x.0.core x.1)
+    (λ x core_is told_is. subst (λ X. IsDecided M t f body X x.1) (sym core_is) (subst (IsDecided M t f body N) (sym told_is) is)) state answer
 
-  pub writable : (r : RecordOf Extent) (told : AnswerOf Extent) → IsEnd M t f body (decision.Write r told) → IsEndWritable (without_flight M t c) body (decision.Write r told)
+module _ (M N : State Extent) (t : ℕ) (f : Flight) (body : Body Extent) (left : N ≡ without_flight M t f.conn) where
+  pub replied : (told : AnswerOf Extent) → IsEnd M t f body (decision.Reply told) → IsDecided M t f body N told
   unfolding IsEnd
-  writable r told ended = subst (λ k. IsEndWritable (without_flight M t k) body (decision.Write r told)) same ended.0
+  replied told ended = λ words. ended.1 words ∙ ap (λ X. answering X told words) (sym left)
+
+  pub recorded : (r : RecordOf Extent) (told : AnswerOf Extent) → IsEnd M t f body (decision.Write r told) → IsDecided M t f body (after_record N r) told
+  unfolding IsEnd
+  recorded r told ended = λ words. ended.1 words ∙ ap (λ X. answering (after_record X r) told words) (sym left)
+
+  pub writable : (d : Decision) → IsEnd M t f body d → IsEndWritable N body d
+  unfolding IsEnd
+  writable d ended = subst (λ X. IsEndWritable X body d) (sym left) ended.0

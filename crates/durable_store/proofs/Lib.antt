@@ -3,5 +3,8 @@ mod Ended
 mod Kept
 mod Lifts
 mod Losses
+mod PlainEnds
 mod ReadFor
 mod UnderWay
+mod WholeBodies
+mod WholeEnds
