@@ -163,7 +163,7 @@ fn ended<D: Disk>(
     c: ConnNum,
     body: &Body,
 ) -> Result<(Store, Answer), Memory>
-    requires later { store.core.now ≤ t }
+    requires later { store.core.kept ≤ t }
     requires under_way { IsSome (flight_of store.core c) }
     ensures decided { IfOk result (λ r. (f : TheFlight) → flight_of store.core c ≡ Some f
         → IsDecided (with_daily_pass store.core t) t f (body_at body.now) r.0.core r.1) }
@@ -198,6 +198,7 @@ impl Store {
             return Ok((self, None));
         }
         let t = moment_at(&self.core, reading);
+        self.core.is_sound();
         let Store { core, mut contents } = self;
         let Some(whole) = contents.seal(disk, c.get() as u64)? else {
             return Ok((Store { core, contents }, None));
