@@ -2,7 +2,7 @@
 use Rattle.std.proofs.Common.{◌≡◌, ◌==◌, ◌<◌, ◌-◌, ◌≤◌, ℕ, nat_eq, Bool, true, false, List, [], ◌∷◌, Option, Some, None, length, refl, sym, ap, subst, ◌∙◌, arith}
 use Rattle.std.specs.Prelude.{All}
 use Rattle.std.specs.Map.{update}
-use Rattle.std.proofs.lemmas.Bool.{eqb-true, eq-eqb, false≢true, true≢false}
+use Rattle.std.proofs.lemmas.Bool.{eqb-true, eq-eqb, false≢true}
 use Rattle.b2_base.specs.declared.extent.Extent.{Extent}
 use Rattle.b2_types.specs.declared.answer.AnswerOf.{AnswerOf}
 use Rattle.b2_types.specs.declared.key.Flight.{Flight}
@@ -71,10 +71,8 @@ came_whole (Some f) a came (b, is, len, came_is) whole = record {
 }
 
 -- then it can be sealed
-pub sealed_whole : (t : Contents) (d : DiskState) (h : Holding) (n : ℕ) (g : Option Flight) (a : Option Coming) (came : Option (List ℕ)) → CameWhole g a came → IsSealed t d h n a None → ⊥
-sealed_whole t d h n g a came w sealed =
-    let some : IsSealed t d h n (Some w.bytes) None = subst (λ x. IsSealed t d h n x None) w.coming sealed in
-    omega (arith, some.0, w.len, w.all, no_longer (digest_rule w.flight.upload) (body_length w.flight.upload))
+sealed_whole : (t : Contents) (d : DiskState) (h : Holding) (n : ℕ) (g : Option Flight) (a : Option Coming) (came : Option (List ℕ)) (w : CameWhole g a came) → IsSealed t d h n (Some w.bytes) None → ⊥
+sealed_whole t d h n g a came w sealed = omega (arith, sealed.0, w.len, w.all, no_longer (digest_rule w.flight.upload) (body_length w.flight.upload))
 
 module _ (s : Store) (d : DiskState) (P : Progress (List ℕ)) (reading c : ℕ) (came : Came) (read : Read) (is : IsStore s d P.state came read) where
   -- nothing is done
@@ -153,3 +151,24 @@ module _ (s : Store) (d : DiskState) (P : Progress (List ℕ)) (reading c : ℕ)
             subst (λ g. Ends u after P reading c came read (Some answer) g (came c)) (sym (flights ∙ x.there))
             (subst (λ b. Ends u after P reading c came read (Some answer) (Some f) b) (sym x.came_is)
             (subst (EndsWhole u after P reading c f.upload bytes came read (Some answer)) (sym tested) one))
+
+  -- ---- from the calls
+
+  module _ (conn : IsConn c) (whole : is_whole (flight_of P.state c) (came c) ≡ true) (v : Contents) (after : DiskState) (n : ℕ) (same : n ≡ c) (o : Option Whole) (seal : IsSealed v after h n (h.came n) o) where
+    abbrev x : CameWhole (flight_of s.core c) (h.came c) (came c)
+    x = whole_on conn whole
+
+    seal_here : (r : Option Whole) → o ≡ r → IsSealed v after h n (Some x.bytes) r
+    seal_here r o_is = subst (IsSealed v after h n (Some x.bytes)) o_is (subst (λ a. IsSealed v after h n a o) (ap h.came same ∙ x.coming) seal)
+
+    pub unsealed : o ≡ None → ⊥
+    unsealed none = sealed_whole v after h n (flight_of s.core c) (h.came c) (came c) x (seal_here None none)
+
+    pub answered : (w : Whole) → o ≡ Some w → (told : Option (List ℕ)) → ((f : Flight) → flight_of s.core c ≡ Some f → told ≡ told_under (digest_rule f.upload) w.rest.items) → (t : ℕ) → t ≡ moment s.core reading
+        → (u : Store) (answer : AnswerOf Extent) → ((f : Flight) → flight_of s.core c ≡ Some f → IsDecided (with_daily_pass s.core t) t f (record { content = w.extent; digest = w.digest; told = told }) u.core answer)
+        → ((k : Holding) → k.owned ≡ w.extent ∷ contents_of s.core → IsHeld v after k → IsHeld u.contents after (owning u.core k)) → Ends u after P reading c came read (Some answer) (flight_of P.state c) (came c)
+    answered w some told told_is t t_is u answer decided kept =
+        let sealed = seal_here (Some w) some in
+        let k = sealed.0 in
+        ended_whole x w k n same sealed.1 sealed.2.sizes told (told_is x.flight x.there) t t_is u answer (decided x.flight x.there) after
+        (kept k (sealed.1.stored.owned ∙ ap (λ xs. w.extent ∷ xs) is.kept.owned) sealed.2)
