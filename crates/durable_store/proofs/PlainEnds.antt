@@ -1,5 +1,5 @@
 -- The end of an upload sends no content.
-use Rattle.std.proofs.Common.{◌≡◌, ℕ, List, [], ◌++◌, Option, Some, None, ap, subst}
+use Rattle.std.proofs.Common.{ℕ, List, [], ◌++◌, Option, Some, None, ap, subst}
 use Rattle.b2_base.specs.declared.extent.Extent.{Extent}
 use Rattle.rule_table.specs.declared.fault.FaultKind.{FaultKind}
 use Rattle.rule_table.specs.declared.fault.FaultKind.TheVariants.{NoBucket, NoFile}

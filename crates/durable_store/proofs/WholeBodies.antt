@@ -1,8 +1,7 @@
 -- A body that came whole, cut where its content ends.
-use Rattle.std.proofs.Common.{◌≡◌, ◌-◌, ℕ, List, [], Option, Some, None, length, take, drop, refl, sym, ap, ◌∙◌}
+use Rattle.std.proofs.Common.{◌≡◌, ℕ, List, [], Option, length, take, drop, refl, sym, ap, ◌∙◌}
 use Rattle.std.proofs.Math.Seq.{take-length}
 use Rattle.sha1.specs.Sha1.{sha1}
-use Rattle.b2_base.specs.declared.extent.Extent.{Extent}
 use Rattle.b2_types.specs.declared.upload.DigestRule.{DigestRule}
 use Rattle.b2_types.specs.declared.upload.DigestRule.TheVariants as rule
 use Rattle.b2_model.specs.Body.{Body, body_under}

@@ -1,5 +1,5 @@
 -- An upload ends whose body came whole, and nothing is done where it didn't.
-use Rattle.std.proofs.Common.{◌≡◌, ◌==◌, ◌<◌, ◌-◌, ◌≤◌, ℕ, nat_eq, Bool, true, false, List, [], ◌∷◌, Option, Some, None, length, refl, sym, ap, subst, ◌∙◌, arith}
+use Rattle.std.proofs.Common.{◌≡◌, ◌==◌, ◌≤◌, ℕ, nat_eq, true, false, List, [], ◌∷◌, Option, Some, None, length, refl, sym, ap, subst, ◌∙◌, arith}
 use Rattle.std.specs.Prelude.{All}
 use Rattle.std.specs.Map.{update}
 use Rattle.std.proofs.lemmas.Bool.{eqb-true, eq-eqb, false≢true}
@@ -8,14 +8,13 @@ use Rattle.b2_types.specs.declared.answer.AnswerOf.{AnswerOf}
 use Rattle.b2_types.specs.declared.key.Flight.{Flight}
 use Rattle.b2_types.specs.declared.upload.DigestRule.{DigestRule}
 use Rattle.b2_types.specs.declared.upload.DigestRule.TheVariants as rule
-use Rattle.b2_types.specs.declared.upload.UploadCall.{UploadCall}
 use Rattle.disk_model.specs.State.{DiskState}
 use Rattle.b2_model.specs.Ask.{Outcome}
 use Rattle.b2_model.specs.Body.{Body, body_of, digest_rule}
-use Rattle.b2_model.specs.Contents.{answer_by, body_by, state_by}
+use Rattle.b2_model.specs.Contents.{state_by}
 use Rattle.b2_model.specs.State.{State}
 use Rattle.b2_model.specs.UploadSteps.{end, flight_of}
-use Rattle.b2_model.specs.Run.{Progress, answer_to, ends, moment, of_bytes, step, with_daily_pass}
+use Rattle.b2_model.specs.Run.{Progress, ends, moment, of_bytes, step, with_daily_pass}
 use Rattle.flight_laws.proofs.Finds.{found_conn}
 use Rattle.flight_laws.proofs.Laws.{day_keeps, end_here, end_keeps}
 use Rattle.contents_agree.specs.ContentsOf.{contents_of}
@@ -29,7 +28,7 @@ use Rattle.core_decisions.specs.Decided.{answering}
 use Rattle.durable_store.specs.Ends.{Ends, EndsWhole, IsDecided, IsEnded, is_whole, told_under}
 use Rattle.durable_store.specs.Lengths.{body_length, content_length, content_under}
 use Rattle.durable_store.specs.Steps.{HasMade, start_at}
-use Rattle.durable_store.specs.Owned.{IsKept, owning}
+use Rattle.durable_store.specs.Owned.{owning}
 use Rattle.durable_store.specs.Store.{Came, IsConn, IsStore, IsUnderWay, Read}
 use Rattle.durable_store.specs.declared.store.Store.{Store}
 use Rattle.durable_store.proofs.Lifts.{ended}
