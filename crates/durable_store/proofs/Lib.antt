@@ -4,5 +4,8 @@ mod Kept
 mod Lifts
 mod Losses
 mod Passed
+mod PlainEnds
 mod ReadFor
 mod UnderWay
+mod WholeBodies
+mod WholeEnds
