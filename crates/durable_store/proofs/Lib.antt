@@ -1,7 +1,10 @@
 mod Begins
+mod Copying
 mod Ended
 mod Kept
 mod Lifts
 mod Losses
+mod OnBytes
 mod ReadFor
+mod Spans
 mod UnderWay
