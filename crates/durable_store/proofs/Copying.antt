@@ -33,7 +33,8 @@ use Rattle.core_decisions.specs.declared.decision.Decision.TheVariants as decisi
 use Rattle.core_copies.specs.Copied.{IsAllowed, IsCopyDecision, IsPlanOf}
 use Rattle.core_copies.specs.declared.plan.CopyPlan.{CopyPlan}
 use Rattle.stored_contents.specs.Held.{Holding, IsHeld}
-use Rattle.stored_contents.specs.Sealed.{HasCopied}
+use Rattle.stored_contents.specs.Sealed.{HasCopied, IsCopied}
+use Rattle.stored_contents.specs.declared.contents.Contents.{Contents}
 use Rattle.stored_contents.specs.declared.uploads.Whole.{Whole}
 use Rattle.stored_contents.proofs.Updates.{updated_other}
 use Rattle.durable_store.specs.Carried.{IsCarried}
@@ -64,6 +65,16 @@ copy_made h k number content w bytes above extent digest copy =
       came = λ c conn. ap (λ g. g c) copy.came ∙ updated_other h.came number None c (apart c conn);
       reads = λ c conn. ap (λ g. g c) copy.read ∙ ap (λ b. if b then [] else h.read c) (ne_eqb number c (apart c conn));
     }
+
+pub copied_plan : (t : Contents) (d : DiskState) (h : Holding) (number : ℕ) (plan : CopyPlan) (pieces : List Extent) (o : Option Whole) (w : Whole) → number ≡ 4294967296 → pieces ≡ plan.content → o ≡ Some w
+    → (All (Contains h.owned) pieces → plan.span.at + plan.span.len ≤ length (flat_map h.meaning pieces) → IsCopied t d h number (take plan.span.len (drop plan.span.at (flat_map h.meaning pieces))) o)
+    → All (Contains h.owned) plan.content → plan.span.at + plan.span.len ≤ length (flat_map h.meaning plan.content)
+    → (k : Holding) × HasCopy h (take plan.span.len (drop plan.span.at (flat_map h.meaning plan.content))) (record { content = w.extent; digest = w.digest }) k × IsHeld t d k
+copied_plan t d h number plan pieces o w above same is made owned lies =
+    let cut : List Extent → List ℕ = λ ps. take plan.span.len (drop plan.span.at (flat_map h.meaning ps)) in
+    let there = made (subst (All (Contains h.owned)) (sym same) owned) (subst (λ ps. plan.span.at + plan.span.len ≤ length (flat_map h.meaning ps)) (sym same) lies) in
+    let (k, copy, held) = subst (λ ps. IsCopied t d h number (cut ps) (Some w)) same (subst (IsCopied t d h number (cut pieces)) is there) in
+    (k, copy_made h k number (cut plan.content) w (record { content = w.extent; digest = w.digest }) above refl refl copy, held)
 
 -- ---- what is written
 
