@@ -1,9 +1,11 @@
 -- A copy inside a store is carried out.
-use Rattle.std.proofs.Common.{◌≡◌, ◌+◌, ◌≤◌, ◌<◌, ℕ, nat_eq, true, List, [], ◌∷◌, ◌++◌, All, Contains, Option, Some, None, length, take, drop, flat_map, if◌then◌else◌, refl, sym, ap, subst, ◌∙◌, arith}
+use Rattle.std.proofs.Common.{◌≡◌, ◌+◌, ◌≤◌, ◌<◌, ℕ, nat_eq, true, List, [], ◌∷◌, ◌++◌, All, Contains, Option, Some, None, Err, length, take, drop, flat_map, if◌then◌else◌, refl, sym, ap, subst, ◌∙◌, arith}
 use Rattle.std.proofs.lemmas.Bool.{ne_eqb}
 use Rattle.std.proofs.lemmas.List.Elements.{All-weaker, All-contains}
 use Rattle.sha1.specs.Sha1.{sha1}
+use Rattle.b2_base.specs.Failure.{IfFault}
 use Rattle.b2_base.specs.declared.extent.Extent.{Extent}
+use Rattle.b2_base.specs.declared.failure.Or.{Or}
 use Rattle.b2_types.specs.declared.answer.AnswerOf.{AnswerOf}
 use Rattle.b2_types.specs.declared.answer.AnswerOf.TheVariants as answer
 use Rattle.b2_types.specs.declared.call.ByteRange.{ByteRange}
@@ -38,7 +40,7 @@ use Rattle.stored_contents.specs.declared.contents.Contents.{Contents}
 use Rattle.stored_contents.specs.declared.uploads.Whole.{Whole}
 use Rattle.stored_contents.proofs.Updates.{updated_other}
 use Rattle.durable_store.specs.Carried.{IsCarried}
-use Rattle.durable_store.specs.Copied.{HasCopy, WritesCopy, after_decision, told_by}
+use Rattle.durable_store.specs.Copied.{HasCopy, IsRefusedFor, WritesCopy, after_decision, told_by}
 use Rattle.durable_store.specs.Owned.{IsKept, owning}
 use Rattle.durable_store.specs.Store.{IsConn}
 use Rattle.durable_store.specs.declared.store.Store.{Store}
@@ -172,36 +174,36 @@ module _ (s u : Store) (d e : DiskState) (h k : Holding) (t : ℕ) (words : List
 
 -- ---- a copy that is refused before anything is copied
 
-module _ (s u : Store) (d : DiskState) (h : Holding) (t : ℕ) (words : List ℕ) (token : Option (List ℕ)) (told : AnswerOf Extent) (fault : Fault)
-    (kept : IsKept s d h) (state : u.core ≡ at_moment s.core t) (contents : u.contents ≡ s.contents) (answers : told ≡ answer.Refused fault) where
+module _ (s u : Store) (d : DiskState) (h : Holding) (t : ℕ) (words : List ℕ) (token : Option (List ℕ)) (error : Or Fault) (told : AnswerOf Extent) (kept : IsKept s d h) (refused : IsRefusedFor s t error u told) where
   abbrev some_body : Body Extent
   some_body = record { content = record { at = 0; len = 0 }; digest = []; told = None }
 
   abbrev bytes_state : State (List ℕ)
   bytes_state = state_by h.meaning s.core
 
-  -- the machine over bytes refuses it whatever a copy makes
+  -- each refusal of the machine over extents is one of the machine over bytes
   abbrev Unmade : Call → Type 0
   Unmade c = IsRefusal (ask (with_copy (body_by h.meaning some_body) of_bytes) bytes_state t words token c).answer → ask of_bytes bytes_state t words token c ≡ ask (with_copy (body_by h.meaning some_body) of_bytes) bytes_state t words token c
 
-  refused_so : (c : Call) → IsDecision s.core t token c (decision.Reply (answer.Refused fault)) → Unmade c → IsCarried s.core h t words words token c u d told
+  refused_so : (c : Call) → IfFault {T = CopyPlan} (Err error) (λ f. IsDecision s.core t token c (decision.Reply (answer.Refused f))) → Unmade c → IsCarried s.core h t words words token c u d told
   unfolding IsDecision
-  refused_so c is unmade =
+  refused_so c denied unmade =
       let f = h.meaning in
+      let is = subst (λ (e : Or Fault). IfFault {T = CopyPlan} (Err e) (λ f. IsDecision s.core t token c (decision.Reply (answer.Refused f)))) refused.error_is denied in
       let made = goes_along f kept.held.sizes some_body s.core t words token c ∙ ap (outcome_by f) (is.1 (just some_body) words) in
       record {
         holding = h;
-        kept = record { held = subst (λ x. IsHeld x d h) (sym contents) kept.held; owned = kept.owned ∙ sym (ap contents_of state) };
+        kept = record { held = subst (λ x. IsHeld x d h) (sym refused.contents) kept.held; owned = kept.owned ∙ sym (ap contents_of refused.state) };
         agrees = λ k x within. refl;
         came = λ c conn. refl;
         reads = λ c conn. refl;
         asked = unmade (subst IsRefusal (sym (ap (λ (o : Outcome (List ℕ)). o.answer) made)) tt)
             ∙ made
-            ∙ (λ i. record { state = state_by f (sym state i); answer = answer_by f (sym answers i); words = words });
+            ∙ (λ i. record { state = state_by f (sym refused.state i); answer = answer_by f (sym refused.answers i); words = words });
       }
 
-  pub file_refusal : (q : CopyFile) → IsDecision s.core t token (call.CopyFile q) (decision.Reply (answer.Refused fault)) → IsCarried s.core h t words words token (call.CopyFile q) u d told
-  file_refusal q is = refused_so (call.CopyFile q) is (file_refused bytes_state t words (body_by h.meaning some_body) token q)
+  pub file_refusal : (q : CopyFile) → IfFault {T = CopyPlan} (Err error) (λ f. IsDecision s.core t token (call.CopyFile q) (decision.Reply (answer.Refused f))) → IsCarried s.core h t words words token (call.CopyFile q) u d told
+  file_refusal q denied = refused_so (call.CopyFile q) denied (file_refused bytes_state t words (body_by h.meaning some_body) token q)
 
-  pub part_refusal : (q : CopyPart) → IsDecision s.core t token (call.CopyPart q) (decision.Reply (answer.Refused fault)) → IsCarried s.core h t words words token (call.CopyPart q) u d told
-  part_refusal q is = refused_so (call.CopyPart q) is (part_refused bytes_state t words (body_by h.meaning some_body) token q)
+  pub part_refusal : (q : CopyPart) → IfFault {T = CopyPlan} (Err error) (λ f. IsDecision s.core t token (call.CopyPart q) (decision.Reply (answer.Refused f))) → IsCarried s.core h t words words token (call.CopyPart q) u d told
+  part_refusal q denied = refused_so (call.CopyPart q) denied (part_refused bytes_state t words (body_by h.meaning some_body) token q)

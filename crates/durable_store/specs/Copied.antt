@@ -2,7 +2,12 @@
 use Rattle.std.specs.Prelude.{◌≡◌, ⊤, ℕ, List, [], ◌∷◌, true, All}
 use Rattle.sha1.specs.Sha1.{sha1}
 use Rattle.b2_base.specs.declared.extent.Extent.{Extent}
+use Rattle.b2_base.specs.declared.failure.Or.{Or}
+use Rattle.b2_base.specs.declared.failure.Or.TheVariants as or
 use Rattle.b2_types.specs.declared.answer.AnswerOf.{AnswerOf}
+use Rattle.b2_types.specs.declared.answer.AnswerOf.TheVariants as answer
+use Rattle.b2_types.specs.declared.fault.Fault.{Fault}
+use Rattle.b2_model.specs.Ask.{at_moment}
 use Rattle.b2_model.specs.Changes.{after_record}
 use Rattle.b2_model.specs.State.{State}
 use Rattle.b2_model.specs.Stored.{applies_change}
@@ -13,6 +18,7 @@ use Rattle.core_decisions.specs.declared.decision.Decision.{Decision}
 use Rattle.core_decisions.specs.declared.decision.Decision.TheVariants as decision
 use Rattle.stored_contents.specs.Held.{Holding}
 use Rattle.durable_store.specs.Store.{IsConn}
+use Rattle.durable_store.specs.declared.store.Store.{Store}
 
 -- The copy stands for these bytes and is owned besides. What was owned stands for what it stood for, and uploads and
 -- readers are as they were.
@@ -37,3 +43,11 @@ after_decision M (decision.Write r told) = after_record M r
 abbrev pub told_by : Decision → AnswerOf Extent
 told_by (decision.Reply told) = told
 told_by (decision.Write r told) = told
+
+-- the fault is answered, and the state's moment alone has moved
+pub record IsRefusedFor (s : Store) (t : ℕ) (error : Or Fault) (u : Store) (told : AnswerOf Extent) : Type 0 where
+  pub fault : Fault
+  pub error_is : error ≡ or.Fault fault
+  pub state : u.core ≡ at_moment s.core t
+  pub contents : u.contents ≡ s.contents
+  pub answers : told ≡ answer.Refused fault

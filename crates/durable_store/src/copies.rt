@@ -2,11 +2,7 @@
 
 ghost use Rattle.std.specs.Prelude.{◌≡◌, ◌∷◌, ◌++◌, ◌+◌, ◌≤◌, ℕ, List, true, IfOk, All, Contains, length, take, drop, flat_map};
 ghost use Rattle.std.specs.Option.{option_copied};
-ghost use Rattle.b2_base.specs.declared.failure.Or.TheVariants as or;
-ghost use Rattle.b2_types.specs.declared.answer.AnswerOf.TheVariants as answers;
 ghost use Rattle.b2_types.specs.declared.call.Call.TheVariants as calls;
-ghost use Rattle.b2_types.specs.declared.fault.Fault.{Fault as TheFault};
-ghost use Rattle.b2_model.specs.Ask.{at_moment};
 ghost use Rattle.b2_model.specs.Changes.{after_record};
 ghost use Rattle.b2_model.specs.Stored.{applies_change};
 ghost use Rattle.sound_states.specs.Sound.{IsFitChange};
@@ -14,7 +10,7 @@ ghost use Rattle.contents_agree.specs.ContentsOf.{brought, contents_of};
 ghost use Rattle.core_copies.specs.Copied.{IsAllowed, IsPlanOf};
 ghost use Rattle.stored_contents.specs.Held.{Holding, IsHeld};
 ghost use Rattle.durable_store.specs.Carried.{IsCarried};
-ghost use Rattle.durable_store.specs.Copied.{HasCopy, WritesCopy, after_decision, told_by};
+ghost use Rattle.durable_store.specs.Copied.{HasCopy, IsRefusedFor, WritesCopy, after_decision, told_by};
 ghost use Rattle.durable_store.specs.Owned.{IsKept, owning};
 
 use crate::store::{Store, written};
@@ -120,9 +116,7 @@ impl Store {
     // What is answered to a copy that is refused before anything is copied.
     fn copy_refused(self, t: Moment, error: Or<Fault>) -> Result<(Store, Answer), Or<StoreFault>>
         requires later { self.core.now ≤ t }
-        ensures { IfOk result (λ r. (fault : TheFault) × (error ≡ or.Fault fault)
-            × (r.0.core ≡ at_moment self.core t) × (r.0.contents ≡ self.contents)
-            × (r.1 ≡ answers.Refused fault)) }
+        ensures { IfOk result (λ r. IsRefusedFor self t error r.0 r.1) }
     {
         self.core.is_sound();
         let Store { core, contents } = self;
