@@ -1,5 +1,5 @@
 -- A copy inside a store is carried out.
-use Rattle.std.proofs.Common.{◌≡◌, ◌+◌, ◌≤◌, ◌<◌, ℕ, nat_eq, true, List, [], ◌∷◌, ◌++◌, All, Contains, Option, Some, None, Err, length, take, drop, flat_map, if◌then◌else◌, refl, sym, ap, subst, ◌∙◌, arith}
+use Rattle.std.proofs.Common.{◌≡◌, ◌+◌, ◌≤◌, ℕ, List, [], ◌∷◌, All, Contains, Option, Some, None, Err, length, take, drop, flat_map, if◌then◌else◌, refl, sym, ap, subst, ◌∙◌, arith}
 use Rattle.std.proofs.lemmas.Bool.{ne_eqb}
 use Rattle.std.proofs.lemmas.List.Elements.{All-weaker, All-contains}
 use Rattle.sha1.specs.Sha1.{sha1}
@@ -21,7 +21,6 @@ use Rattle.disk_model.specs.State.{DiskState}
 use Rattle.b2_model.specs.Ask.{Outcome, ask, at_moment}
 use Rattle.b2_model.specs.Body.{Body}
 use Rattle.b2_model.specs.Contents.{answer_by, body_by, outcome_by, state_by}
-use Rattle.b2_model.specs.Rows.{version_at}
 use Rattle.b2_model.specs.Run.{of_bytes}
 use Rattle.b2_model.specs.State.{State}
 use Rattle.b2_model.specs.Stored.{applies_change}
@@ -32,7 +31,7 @@ use Rattle.copy_calls.specs.declared.file.CopiedBytes.{CopiedBytes}
 use Rattle.core_decisions.specs.Decided.{IsDecision, at_extents, outcome}
 use Rattle.core_decisions.specs.declared.decision.Decision.{Decision}
 use Rattle.core_decisions.specs.declared.decision.Decision.TheVariants as decision
-use Rattle.core_copies.specs.Copied.{IsAllowed, IsCopyDecision, IsPlanOf}
+use Rattle.core_copies.specs.Copied.{IsCopyDecision, IsPlanOf}
 use Rattle.core_copies.specs.declared.plan.CopyPlan.{CopyPlan}
 use Rattle.stored_contents.specs.Held.{Holding, IsHeld}
 use Rattle.stored_contents.specs.Sealed.{HasCopied, IsCopied}

@@ -3,7 +3,6 @@ use Rattle.std.proofs.Common.{◌≡◌, ℕ, zero, suc, ◌+◌, ◌≤◌, ◌
 use Rattle.std.proofs.lemmas.List.Elements.{All-weaker, All-contains_itself}
 use Rattle.rule_table.specs.declared.fault.FaultKind.TheVariants.{NoBucket, NoFile}
 use Rattle.b2_base.specs.declared.extent.Extent.{Extent}
-use Rattle.b2_types.specs.declared.answer.Span.{Span}
 use Rattle.b2_types.specs.declared.bucket.Bucket.{Bucket}
 use Rattle.b2_types.specs.declared.call.ByteRange.{ByteRange}
 use Rattle.b2_types.specs.declared.call.Call.TheVariants as call
@@ -26,7 +25,7 @@ use Rattle.contents_agree.proofs.Each.{Each, each_version}
 use Rattle.download_laws.specs.Sent.{LiesIn}
 use Rattle.download_laws.proofs.Spans.{all_bytes, in_content}
 use Rattle.new_versions.specs.Decided.{extent_len}
-use Rattle.core_decisions.specs.Decided.{Copies, at_extents}
+use Rattle.core_decisions.specs.Decided.{at_extents}
 use Rattle.core_decisions.proofs.Asked.{no_copy}
 use Rattle.core_copies.specs.Copied.{IsAllowed, IsPlanOf}
 use Rattle.core_copies.specs.declared.plan.CopyPlan.{CopyPlan}
