@@ -1,11 +1,14 @@
 mod Begins
+mod Copying
 mod Ended
 mod Kept
 mod Lifts
 mod Losses
 mod Passed
 mod PlainEnds
+mod OnBytes
 mod ReadFor
+mod Spans
 mod UnderWay
 mod WholeBodies
 mod WholeEnds

@@ -5,4 +5,5 @@ pub mod Store
 pub mod Uploads
 pub mod Asks
 pub mod Carried
+pub mod Copied
 pub mod Ends
