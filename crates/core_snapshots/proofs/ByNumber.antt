@@ -1,5 +1,5 @@
 -- The rows of an index hold the versions of the state.
-use Rattle.std.proofs.Common.{◌≡◌, ℕ, ◌↔◌, ◌==◌, nat_lt, nat_le, Bool, true, false, List, [], ◌∷◌, ◌++◌, filter, fold, map, append-nil, map-id, append_assoc, subst, sym, ap, ◌∙◌, ⊎_elim, refl, arith}
+use Rattle.std.proofs.Common.{◌≡◌, ℕ, ◌↔◌, ◌==◌, nat_lt, nat_le, true, false, List, [], ◌∷◌, ◌++◌, filter, fold, map, append-nil, map-id, append_assoc, subst, sym, ap, ◌∙◌, ⊎_elim, refl, arith}
 use Rattle.std.specs.List.{Contains}
 use Rattle.std.specs.List.Sorted.{IsPermutation}
 use Rattle.std.proofs.lemmas.Bool.{cases_Bool, eq-eqb}
@@ -11,7 +11,7 @@ use Rattle.b2_model.specs.Rows.{is_before, listing_order, put_row, rows}
 use Rattle.b2_model.specs.State.{State}
 use Rattle.version_index.specs.declared.spot.Spot.{Spot}
 use Rattle.version_index.specs.Rows.{AreAscending}
-use Rattle.index_rows.specs.OwnRows.{AreNumbered, AreOwn, AreRowsOf, by_number, of_bucket, own_row, spot_of}
+use Rattle.index_rows.specs.OwnRows.{AreNumbered, AreOwn, AreRowsOf, of_bucket, own_row}
 use Rattle.index_rows.proofs.Members.{kept, mapped, mapped_back}
 use Rattle.index_rows.proofs.Places.{own_is}
 use Rattle.kept_versions.proofs.Kept.{seen}

@@ -1,3 +1,4 @@
 pub mod ByNumber
 pub mod Sorted
 pub mod Pieces
+pub mod Seen

@@ -1,6 +1,6 @@
 -- The pieces of a list, one after the other.
-use Rattle.std.proofs.Common.{◌≡◌, ℕ, zero, suc, ◌<◌, ◌≤◌, ◌-◌, ◌==◌, Bool, true, false, min, List, [], ◌∷◌, ◌++◌, length, length-drop, map, filter, take, drop, append_assoc, subst, sym, ap, ◌∙◌, ⊎_elim, refl, arith}
-use Rattle.std.proofs.lemmas.Bool.{cases_Bool, ne_eqb, eqb-false, eq-eqb}
+use Rattle.std.proofs.Common.{◌≡◌, ℕ, zero, suc, ◌<◌, ◌≤◌, ◌-◌, Bool, true, false, min, List, [], ◌∷◌, ◌++◌, length, length-drop, map, filter, take, drop, append_assoc, subst, sym, ap, ◌∙◌, ⊎_elim, refl, arith}
+use Rattle.std.proofs.lemmas.Bool.{cases_Bool, ne_eqb, eq-eqb}
 use Rattle.std.proofs.lemmas.List.{drop_min, map-append, take_min}
 use Rattle.std.proofs.lemmas.List.Elements.{filter-append}
 use Rattle.b2_model.specs.Lists.{is_empty}

@@ -1,6 +1,6 @@
 -- Versions that were sorted by number are those by number.
-use Rattle.std.proofs.Common.{◌≡◌, ◌≢◌, ℕ, ◌<◌, ◌≤◌, ◌⊎◌, ◌==◌, Bool, true, false, cond, List, [], ◌∷◌, length, get_or, map, subst, sym, ap, ◌∙◌, inl, inr, ⊎_elim, refl, arith}
-use Rattle.std.specs.List.{AllPairs, Contains, swap}
+use Rattle.std.proofs.Common.{◌≡◌, ◌≢◌, ℕ, ◌<◌, ◌≤◌, ◌⊎◌, ◌==◌, true, false, cond, List, [], ◌∷◌, length, get_or, map, subst, sym, ap, ◌∙◌, inl, inr, ⊎_elim, refl, arith}
+use Rattle.std.specs.List.{AllPairs, swap}
 use Rattle.std.specs.List.Sorted.{IsNonDecreasingBy, IsPermutation}
 use Rattle.std.proofs.lemmas.Bool.{cases_Bool, eqb-true, eqb-false}
 use Rattle.std.proofs.lemmas.Bool.Decides.{nat_tests}
@@ -82,3 +82,10 @@ sorted_is f bs cs vs held moved order up =
     let apart = IsPermutation-keeps vs (AreApart (λ v. v.num)) (apart_from (λ v. v.num) vs up) (λ l i j low high is. swapped (λ v. v.num) l i j low high is) (map f cs) same in
     let ascends = up_from (λ v. v.num) (map f cs) (shown_order (λ v. v.num) f cs order) apart in
     one_list (map f cs) vs ascends up (λ v. (λ a. Contains-permutation (map f cs) vs v (IsPermutation-sym vs (map f cs) same) a, λ a. Contains-permutation vs (map f cs) v same a))
+
+-- no two of the versions in another order have one number
+pub apart_pairs : {C : Type 0} (xs vs : List (VersionOf C)) → IsPermutation xs vs → AreNumbered vs → AllPairs (λ v w. v.num ≢ w.num) xs
+apart_pairs xs vs moved up i j d low within = λ same.
+    let apart = IsPermutation-keeps vs (AreApart (λ v. v.num)) (apart_from (λ v. v.num) vs up) (λ l a b first second is. swapped (λ v. v.num) l a b first second is) xs (IsPermutation-sym xs vs moved) in
+    let one = apart i j d (omega (arith, low, within)) within same in
+    omega (arith, low, one)

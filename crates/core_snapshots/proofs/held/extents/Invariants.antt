@@ -1,4 +1,4 @@
-use Rattle.std.proofs.Common.{◌≡◌, ◌++◌, map, take}
+use Rattle.std.proofs.Common.{◌≡◌, map, take}
 use Rattle.std.specs.List.{flat_map}
 use Rattle.contents_agree.specs.ContentsOf.{contents_in}
 use Rattle.core_snapshots.proofs.held.extents.Given as goal

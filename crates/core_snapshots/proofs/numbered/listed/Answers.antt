@@ -1,4 +1,4 @@
-use Rattle.std.proofs.Common.{◌∷◌, [], List, map, ap, ◌∙◌}
+use Rattle.std.proofs.Common.{◌∷◌, [], map, ap, ◌∙◌}
 use Rattle.std.proofs.lemmas.List.{map-append}
 use Rattle.core_snapshots.proofs.ByNumber.{all_came, begun, one_more}
 use Rattle.core_snapshots.proofs.numbered.listed.Goals as goal
