@@ -57,7 +57,7 @@ module _ {R X : Type 0} (f : R → X) (put : X → List X → List X) (moves : (
 -- ---- the rows of all buckets
 
 module _ {C : Type 0} where
-  in_order : (vs : List (VersionOf C)) → IsPermutation vs (listing_order vs)
+  pub in_order : (vs : List (VersionOf C)) → IsPermutation vs (listing_order vs)
   in_order vs = subst (λ l. IsPermutation l (listing_order vs)) (map-id vs) (all_gathered (λ v. v) put_row row_moves vs)
 
   -- the version is among those that the machine lists of its bucket where it stands

@@ -21,6 +21,7 @@ use Rattle.b2_model.specs.Checks.{some_and}
 use Rattle.b2_model.specs.Current.{current_in}
 use Rattle.b2_model.specs.Kinds.{is_start, is_upload}
 use Rattle.b2_model.specs.State.{State}
+use Rattle.sound_states.specs.Sound.{IsSound}
 use Rattle.version_index.specs.declared.spot.Spot.{Spot}
 use Rattle.version_index.specs.Order.{listing_total}
 use Rattle.version_index.specs.Rows.{AreAscending, listing_cmp}
@@ -29,8 +30,9 @@ use Rattle.index_rows.specs.OwnRows.{AreOwn, of_bucket, spot_of}
 use Rattle.index_rows.proofs.Members.{first_or_rest, here, later, none_in_empty, pairs_head, pairs_tail}
 use Rattle.core_snapshots.specs.Newest.{is_newest, is_of_name, newest_after, shown, shows}
 use Rattle.core_snapshots.specs.Rows.{AreAllRows}
-use Rattle.core_snapshots.specs.Visible.{is_visible, visible_names}
+use Rattle.core_snapshots.specs.Visible.{visible_names}
 use Rattle.core_snapshots.proofs.ByNumber.{all_held}
+use Rattle.core_snapshots.proofs.InBuckets.{is_visible, visible_are}
 use Rattle.core_snapshots.proofs.Sorted.{apart_pairs}
 
 -- ---- lists
@@ -266,7 +268,7 @@ not_begun action.Upload is = refl
 not_begun action.Hide is = refl
 not_begun action.Start is = absurd (false≢true is)
 
-module _ {C : Type 0} (M : State C) (all : List (Spot × VersionOf C)) (are : AreAllRows M all) where
+module _ {C : Type 0} (M : State C) (sound : IsSound M) (all : List (Spot × VersionOf C)) (are : AreAllRows M all) where
   abbrev xs : List (VersionOf C)
   xs = map (λ r. r.1) all
 
@@ -297,7 +299,7 @@ module _ {C : Type 0} (M : State C) (all : List (Spot × VersionOf C)) (are : Ar
       ap length (shown_from None [] xs refl (λ q a. absurd (none_in_empty q a)))
       ∙ length-filter (is_visible M) xs
       ∙ sym (sum_by-IsPermutation (λ v. if is_visible M v then 1 else 0) xs M.versions (all_held M all are))
-      ∙ sym (length-filter (is_visible M) M.versions)
+      ∙ sym (visible_are M sound)
 
 -- ---- the walk
 
@@ -306,8 +308,8 @@ module _ {C : Type 0} where
   pub record IsCounted (M : State C) (names : ℕ) (last : Option (VersionOf C)) (left : List (Spot × VersionOf C)) : Type 0 where
     pub total : names + length (shown last (map (λ r. r.1) left)) ≡ visible_names M
 
-  pub none_counted : (M : State C) (left all : List (Spot × VersionOf C)) → AreAllRows M all → left ≡ all → IsCounted M 0 None left
-  none_counted M left all are whole = record { total = zero-add (length (shown None (map (λ r. r.1) left))) ∙ ap (λ l. length (shown None (map (λ r. r.1) l))) whole ∙ all_shown M all are }
+  pub none_counted : (M : State C) → IsSound M → (left all : List (Spot × VersionOf C)) → AreAllRows M all → left ≡ all → IsCounted M 0 None left
+  none_counted M sound left all are whole = record { total = zero-add (length (shown None (map (λ r. r.1) left))) ∙ ap (λ l. length (shown None (map (λ r. r.1) l))) whole ∙ all_shown M sound all are }
 
   abbrev one_for : Option (VersionOf C) → VersionOf C → ℕ
   one_for last v = if shows last v then 1 else 0
@@ -330,11 +332,11 @@ module _ {C : Type 0} where
     total = ap (λ n. n + length (shown next (map (λ r. r.1) rest))) is ∙ ap (λ o. names + one_for last v + length (shown o (map (λ r. r.1) rest))) goes ∙ of_next M names last left rest s v steps so_far;
   }
 
-  pub few_counted : (M : State C) (names : ℕ) (last : Option (VersionOf C)) (left rest : List (Spot × VersionOf C)) (s : Spot) (v : VersionOf C) → left ≡ (s, v) ∷ rest → IsCounted M names last left → names + one_for last v ≤ length M.versions
-  few_counted M names last left rest s v steps so_far =
+  pub few_counted : (M : State C) → IsSound M → (names : ℕ) (last : Option (VersionOf C)) (left rest : List (Spot × VersionOf C)) (s : Spot) (v : VersionOf C) → left ≡ (s, v) ∷ rest → IsCounted M names last left → names + one_for last v ≤ length M.versions
+  few_counted M sound names last left rest s v steps so_far =
       let is = of_next M names last left rest s v steps so_far in
       let most = count_by-le-length (is_visible M) M.versions in
-      let count = length-filter (is_visible M) M.versions in
+      let count = visible_are M sound in
       omega (arith, is, most, count)
 
   pub all_counted : (M : State C) (names : ℕ) (last : Option (VersionOf C)) (left : List (Spot × VersionOf C)) → left ≡ [] → IsCounted M names last left → names ≡ visible_names M

@@ -69,6 +69,7 @@ pub fn counts(alloc: Global, core: &Core) -> (u64, u64)
     ensures versions { result.0 ≡ length core.now.versions }
     ensures names { result.1 ≡ visible_names core.now }
 {
+    core.is_sound();
     let versions = core.count() as u64;
     let mut names = 0;
     let mut last = None;

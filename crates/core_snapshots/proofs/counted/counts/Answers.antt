@@ -4,7 +4,7 @@ use Rattle.core_snapshots.proofs.Seen.{all_counted, few_counted, next_counted, n
 use Rattle.core_snapshots.proofs.counted.counts.Goals as goal
 
 pub loop-version-init : goal.loop-version-init
-loop-version-init c = none_counted c.args.core.now _ _ c.all_rows-version-items.ensures.rows c.into_iter-version-iterator.ensures.into_iter_gives
+loop-version-init c = none_counted c.args.core.now c.is_sound.ensures.sound _ _ c.all_rows-version-items.ensures.rows c.into_iter-version-iterator.ensures.into_iter_gives
 
 pub loop-version-preserved : goal.loop-version-preserved
 loop-version-preserved c =
@@ -14,7 +14,7 @@ loop-version-preserved c =
 pub overflow_add-names : goal.overflow_add-names
 overflow_add-names c =
     let i = c.loop-version in
-    let few = few_counted c.args.core.now i.names (option_copied i.last) i.version-iterator _ c.in-Some.field-0-0.now c.in-Some.version.now c.in-Some.ensures.steps i.invariant in
+    let few = few_counted c.args.core.now c.is_sound.ensures.sound i.names (option_copied i.last) i.version-iterator _ c.in-Some.field-0-0.now c.in-Some.version.now c.in-Some.ensures.steps i.invariant in
     let low : i.names + c.shown_by-names.result ≤ c.count-versions.result = omega (arith, few, c.shown_by-names.ensures, c.count-versions.ensures) in
     search rules
 
