@@ -29,7 +29,7 @@ fn listed<'a>(alloc: Global, core: &'a Core) -> Result<Vec<&'a Version>, Memory>
     ensures { IfOk result
         (λ versions. IsPermutation (map (λ v. v.now) versions.items) core.now.versions) }
 {
-    let mut versions = Vec::new(alloc);
+    let mut versions = Vec::with_capacity(alloc, core.count())?;
     for (_, version) in all_rows(alloc, core) {
         versions.push(version)?;
     }

@@ -91,16 +91,25 @@ fn add_numbers(records: &mut Vec<Record>, core: &Core) -> Result<(), Memory>
     add(records, core.kept(), ChangeOf::SnapState(numbers_of(core)))
 }
 
-/// The records that stand for the state: from them a store gets its stored part again.
-pub fn snapshot(alloc: Global, core: &Core) -> Result<Vec<Record>, Memory>
+// The records, one after the other.
+fn all_records(alloc: Global, core: &Core) -> Result<Vec<Record>, Memory>
     ensures { IfOk result (λ records. records.items ≡ snapshot (stored_part core.now)) }
 {
-    core.is_sound();
     let mut records = Vec::new(alloc);
     add_settings(alloc, &mut records, core)?;
     add_buckets(alloc, &mut records, core)?;
     add_versions(alloc, &mut records, core)?;
     add_keys(alloc, &mut records, core)?;
     add_numbers(&mut records, core)?;
+    Ok(records)
+}
+
+/// The records that stand for the state: from them a store gets its stored part again.
+pub fn snapshot(alloc: Global, core: &Core) -> Result<Vec<Record>, Memory>
+    ensures records { IfOk result (λ records. records.items ≡ snapshot (stored_part core.now)) }
+    ensures replay { IfOk result (λ records. replay records.items ≡ Some (stored_part core.now)) }
+{
+    core.is_sound();
+    let records = all_records(alloc, core)?;
     Ok(records)
 }

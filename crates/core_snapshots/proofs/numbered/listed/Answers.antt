@@ -4,7 +4,7 @@ use Rattle.core_snapshots.proofs.ByNumber.{all_came, begun, one_more}
 use Rattle.core_snapshots.proofs.numbered.listed.Goals as goal
 
 pub loop-version-init : goal.loop-version-init
-loop-version-init c = begun c.args.core.now _ _ _ c.all_rows-version-items.ensures.rows (ap (map (λ v. v.now)) c.new-versions.ensures.items) c.into_iter-version-iterator.ensures.into_iter_gives
+loop-version-init c = begun c.args.core.now _ _ _ c.all_rows-version-items.ensures.rows (ap (map (λ v. v.now)) c.in_ok-versions.ensures.items) c.into_iter-version-iterator.ensures.into_iter_gives
 
 pub loop-version-preserved : goal.loop-version-preserved
 loop-version-preserved c =
