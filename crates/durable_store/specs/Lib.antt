@@ -3,7 +3,6 @@ pub mod Owned
 pub mod Lengths
 pub mod Store
 pub mod Uploads
-pub mod Asks
 pub mod Carried
 pub mod Copied
 pub mod Ends

@@ -2,7 +2,6 @@
 //! bytes.
 #![tactic(auto)]
 
-mod asks;
 mod copies;
 mod ends;
 mod lengths;
@@ -12,6 +11,5 @@ mod readers;
 mod store;
 mod uploads;
 
-pub use asks::Reply;
 pub use store::Store;
 pub use stored_contents::StoreFault;
