@@ -4,7 +4,6 @@ mod Ended
 mod Kept
 mod Lifts
 mod Losses
-mod Passed
 mod PlainEnds
 mod OnBytes
 mod ReadFor

@@ -6,7 +6,6 @@ mod copies;
 mod ends;
 mod lengths;
 mod moments;
-mod openings;
 mod readers;
 mod store;
 mod uploads;

@@ -22,7 +22,7 @@ use std::alloc::Global;
 use stored_contents::Contents;
 
 /// How many milliseconds a day has.
-pub(crate) const DAY: u64 = 86_400_000;
+const DAY: u64 = 86_400_000;
 
 /// A store. Its calls take it and give it back, so that after an `Err` it is gone.
 #[derive(Drop)]
